@@ -1,0 +1,10 @@
+-- The mathematics below the code's theory, with no word of the recorder: members of lists, exclusive-or sums, divisors, residues.
+pub mod Members
+pub mod MembersLaws
+pub mod Pigeonhole
+pub mod Xor
+pub mod Sums
+pub mod SumsLaws
+pub mod Gcd
+pub mod GcdLaws
+pub mod Residues
