@@ -1,0 +1,1 @@
+// No code: specs/ proves the specimen table of the code's rules.
