@@ -2,9 +2,9 @@
 use mathlib.Core.Path.{_≡_, refl, sym, _∙_}
 use mathlib.Core.Bool.{Bool, true, false, not, _&&_}
 use mathlib.Core.List.{List, map}
-use Prim.Native.Nat.{ℕ, _-_, _^_, _%_, _<_, _≤_}
+use Prim.Native.Nat.{ℕ, _-_, _*_, _^_, _%_, _<_, _≤_}
 use native.Mathlib.Omega.{arith}
-use lib.Dec.{eqb}
+use lib.Dec.{leb, eqb}
 use lib.ListN.{length, take}
 use borrow.Author.Tests.{le-leb, lt-leb, eq-eqb, ne-eqb, not-true, not-false}
 use Rattle.math.specs.Gcd.{gcd}
@@ -25,6 +25,28 @@ passed r e h = sym e ∙ not-false r h
 no-right : (a : Bool) → (a && false) ≡ false
 no-right true = refl
 no-right false = refl
+
+module _ (n t : ℕ) where
+  pub size-few : n < 2 → false ≡ sizeFits n t
+  unfolding sizeFits
+  size-few h = simp (lt-leb 2 n h)
+
+  pub size-many : 32 < n → false ≡ sizeFits n t
+  unfolding sizeFits
+  size-many h = simp (lt-leb n 32 h, no-right)
+
+  pub size-empty : t < 1 → false ≡ sizeFits n t
+  unfolding sizeFits
+  size-empty h = simp (lt-leb 1 t h, no-right)
+
+  pub size-long : 2048 < t → false ≡ sizeFits n t
+  unfolding sizeFits
+  size-long h = simp (lt-leb t 2048 h, no-right)
+
+  -- where the other bounds hold, the number of places decides
+  pub size-places : 2 ≤ n → n ≤ 32 → 1 ≤ t → t ≤ 2048 → leb (n * t) 32768 ≡ sizeFits n t
+  unfolding sizeFits
+  size-places a b c d = simp (le-leb 2 n a, le-leb n 32 b, le-leb 1 t c, le-leb t 2048 d)
 
 module _ (n t : ℕ) where
   pub straight-size : sizeFits n t ≡ false → refused Size ≡ straightOf n t

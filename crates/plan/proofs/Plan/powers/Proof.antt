@@ -13,7 +13,9 @@ refused-requires : tie.Need-refused-requires
 refused-requires c κs = search needs
 
 returns : tie.Need-returns
-returns c = c .refused .ensures ∙ powers-size _ _ _ (failed _ (c .before .before .size-fits .ensures) (c .before .if1 .taken))
+returns c =
+    c .refused .ensures
+    ∙ powers-size _ _ _ (failed _ (c .before .before .size-fits .ensures) (c .before .if1 .taken))
 
 powers-need-requires : tie.Need-powers-need-requires
 powers-need-requires c κs = search needs
@@ -22,7 +24,9 @@ refused-requires-2 : tie.Need-refused-requires-2
 refused-requires-2 c κs = search needs
 
 returns-2 : tie.Need-returns-2
-returns-2 c = c .refused2 .ensures ∙ powers-not _ _ _ (passed _ (c .before .before .before .before .size-fits .ensures) (c .before .before .before .if1 .left)) (failed _ (c .before .before .powers-need .ensures) (c .before .if2 .taken))
+returns-2 c =
+    c .refused2 .ensures
+    ∙ powers-not _ _ _ (passed _ (c .before .before .before .before .size-fits .ensures) (c .before .before .before .if1 .left)) (failed _ (c .before .before .powers-need .ensures) (c .before .if2 .taken))
 
 powers-requires : tie.Need-powers-requires
 powers-requires c κs =

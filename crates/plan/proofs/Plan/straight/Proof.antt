@@ -14,13 +14,17 @@ refused-requires : tie.Need-refused-requires
 refused-requires c κs = search needs
 
 returns : tie.Need-returns
-returns c = c .refused .ensures ∙ straight-size _ _ (failed _ (c .before .before .size-fits .ensures) (c .before .if1 .taken))
+returns c =
+    c .refused .ensures
+    ∙ straight-size _ _ (failed _ (c .before .before .size-fits .ensures) (c .before .if1 .taken))
 
 refused-requires-2 : tie.Need-refused-requires-2
 refused-requires-2 c κs = search needs
 
 returns-2 : tie.Need-returns-2
-returns-2 c = c .refused2 .ensures ∙ straight-not _ _ (passed _ (c .before .before .before .size-fits .ensures) (c .before .before .if1 .left)) (omega arith)
+returns-2 c =
+    c .refused2 .ensures
+    ∙ straight-not _ _ (passed _ (c .before .before .before .size-fits .ensures) (c .before .before .if1 .left)) (omega arith)
 
 counting-requires : tie.Need-counting-requires
 counting-requires c κs = size-fitting _ _ (passed _ (c .before .before .size-fits .ensures) (c .before .if1 .left)) .n-most
@@ -29,7 +33,9 @@ good-requires : tie.Need-good-requires
 good-requires c κs = search needs
 
 returns-3 : tie.Need-returns-3
-returns-3 c = c .good2 .ensures _ (c .before .counting .ensures) ∙ straight-made _ _ (passed _ (c .before .before .before .before .size-fits .ensures) (c .before .before .before .if1 .left)) (omega arith)
+returns-3 c =
+    c .good2 .ensures _ (c .before .counting .ensures)
+    ∙ straight-made _ _ (passed _ (c .before .before .before .before .size-fits .ensures) (c .before .before .before .if1 .left)) (omega arith)
 
 pub straight-spec : {M : Type 1} → statement M
 straight-spec =

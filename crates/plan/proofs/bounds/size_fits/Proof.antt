@@ -1,33 +1,27 @@
--- `bounds::size_fits` meets its contract: each return by the tests that led there. Assumes nothing.
-use Rattle.plan.specs.Bounds.{sizeFits}
-use borrow.Author.Tests.{le-leb, lt-leb}
+-- `bounds::size_fits` meets its contract: each answer by the test that gives it. Assumes nothing.
+use Rattle.plan.proofs.Answers.{size-few, size-many, size-empty, size-long, size-places}
 use native.Mathlib.Nat.{mul-le-mul}
 use native.Mathlib.Omega.{arith}
 use Rattle.plan.proofs.bounds.size_fits.Statement.{statement}
 use Rattle.plan.proofs.bounds.size_fits.Tie as tie
 
 returns : tie.Need-returns
-unfolding sizeFits
-returns c = simp (lt-leb _ _ (c .if1 .taken))
+returns c = size-few _ _ (omega arith)
 
 returns-2 : tie.Need-returns-2
-unfolding sizeFits
-returns-2 c = simp (le-leb _ _ (c .before .if1 .left), lt-leb _ _ (c .if2 .taken))
+returns-2 c = size-many _ _ (omega arith)
 
 returns-3 : tie.Need-returns-3
-unfolding sizeFits
-returns-3 c = simp (le-leb _ _ (c .before .before .if1 .left), le-leb _ _ (c .before .if2 .left), lt-leb _ _ (c .if3 .taken))
+returns-3 c = size-empty _ _ (omega arith)
 
 returns-4 : tie.Need-returns-4
-unfolding sizeFits
-returns-4 c = simp (le-leb _ _ (c .before .before .before .if1 .left), le-leb _ _ (c .before .before .if2 .left), le-leb _ _ (c .before .if3 .left), lt-leb _ _ (c .if4 .taken))
+returns-4 c = size-long _ _ (omega arith)
 
 mul-result : tie.Need-mul-result
 mul-result c = omega (arith, mul-le-mul (c .before .before .if2 .left) (c .if4 .left))
 
 returns-5 : tie.Need-returns-5
-unfolding sizeFits
-returns-5 c = simp (le-leb _ _ (c .before .before .before .if1 .left), le-leb _ _ (c .before .before .if2 .left), le-leb _ _ (c .before .if3 .left), le-leb _ _ (c .if4 .left))
+returns-5 c = size-places _ _ (omega arith) (omega arith) (omega arith) (omega arith)
 
 pub size-fits-spec : {M : Type 1} → statement M
 size-fits-spec = tie.close (tie.spec returns returns-2 returns-3 returns-4 mul-result returns-5)
