@@ -2,6 +2,7 @@
 pub mod Members
 pub mod MembersLaws
 pub mod Pigeonhole
+pub mod Padded
 pub mod Xor
 pub mod Sums
 pub mod SumsLaws

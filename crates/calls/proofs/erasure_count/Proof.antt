@@ -1,0 +1,36 @@
+-- `erasure_count` meets its contract: a refusal of the call, or the ones of the marks. Assumes nothing.
+use Rattle.calls.specs.Calls.{countLent}
+use Rattle.calls.specs.CallsLaws.{count-most, counted-pass, counted-stop}
+use Rattle.calls.specs.declared.Counted.the-variants.{Marks}
+use mathlib.Core.Path.{sym, _∙_, ap}
+use borrow.Author.Needs.{needs}
+use Rattle.calls.proofs.erasure_count.Statement.{statement}
+use Rattle.calls.proofs.erasure_count.Tie as tie
+
+check-call-requires : tie.Need-check-call-requires
+check-call-requires c κs = search needs
+
+enum-told : tie.Need-enum-told
+enum-told c = search needs
+
+count-ones-requires : tie.Need-count-ones-requires
+unfolding countLent
+count-ones-requires c κs = count-most _ (c .before .before .before .before .args .marks .now) (sym (c .before .before .check-call .ensures) ∙ c .enum-told .given .1)
+
+enum-known-x : tie.Need-enum-known-x
+enum-known-x c = search needs
+
+returns : tie.Need-returns
+unfolding countLent
+returns c =
+    ap Marks (c .count-ones .ensures)
+    ∙ counted-pass _ _ (sym (c .before .before .before .check-call .ensures) ∙ c .before .enum-told .given .1) (λ i. c .before .before .before .before .shared-slice-known .given i .fits)
+
+returns-2 : tie.Need-returns-2
+unfolding countLent
+returns-2 c = counted-stop _ _ _ (sym (c .before .before .before .check-call .ensures) ∙ c .before .x .given .1)
+
+pub erasure-count-spec : {M : Type 1} → statement M
+erasure-count-spec =
+    tie.close
+    (tie.spec check-call-requires enum-told count-ones-requires enum-known-x returns returns-2)

@@ -1,0 +1,44 @@
+-- `none_from` meets its contract: the rest of the first byte decides, or the bytes after it. Assumes nothing.
+use Rattle.calls.specs.ByteLaws.{none-past, none-clear, none-set}
+use mathlib.Core.Path.{sym, _∙_}
+use native.Mathlib.Omega.{arith}
+use borrow.Author.Needs.{needs}
+use Rattle.calls.proofs.none_from.Statement.{statement}
+use Rattle.calls.proofs.none_from.Tie as tie
+
+returns : tie.Need-returns
+returns c = sym (none-past _ _ (omega arith))
+
+shared-slice-read-if2 : tie.Need-shared-slice-read-if2
+shared-slice-read-if2 c = search needs
+
+cast-if2 : tie.Need-cast-if2
+cast-if2 c = search needs
+
+shr-if2 : tie.Need-shr-if2
+shr-if2 c = search needs
+
+returns-2 : tie.Need-returns-2
+returns-2 c = none-set _ _ (c .before .before .if1 .left) (c .before .shared-slice-known2 .given _ .fits) (c .if2 .taken)
+
+add-bytes-clear : tie.Need-add-bytes-clear
+add-bytes-clear c = search needs
+
+bytes-clear-requires : tie.Need-bytes-clear-requires
+bytes-clear-requires c κs = search needs
+
+returns-3 : tie.Need-returns-3
+returns-3 c = c .bytes-clear .ensures ∙ none-clear _ _ (c .before .before .before .if1 .left) (c .before .before .shared-slice-known2 .given _ .fits) (c .before .if2 .left)
+
+pub none-from-spec : {M : Type 1} → statement M
+none-from-spec =
+    tie.close
+    (tie.spec
+    returns
+    shared-slice-read-if2
+    cast-if2
+    shr-if2
+    returns-2
+    add-bytes-clear
+    bytes-clear-requires
+    returns-3)

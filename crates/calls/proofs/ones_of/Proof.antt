@@ -1,0 +1,15 @@
+-- `ones_of` meets its contract. Assumes nothing.
+use Rattle.calls.specs.ByteLaws.{byte-ones}
+use borrow.Author.Needs.{needs}
+use native.Mathlib.Omega.{arith}
+use Rattle.calls.proofs.ones_of.Statement.{statement}
+use Rattle.calls.proofs.ones_of.Tie as tie
+
+cast-result : tie.Need-cast-result
+cast-result c = omega (arith, byte-ones {x = c .args .x} (omega arith))
+
+returns : tie.Need-returns
+returns c = search needs
+
+pub ones-of-spec : {M : Type 1} → statement M
+ones-of-spec = tie.close (tie.spec cast-result returns)

@@ -1,0 +1,4 @@
+-- What refuses a call, and the count of marks.
+pub mod Calls
+pub mod ByteLaws
+pub mod CallsLaws

@@ -1,0 +1,66 @@
+-- `parents::unite` meets its contract. The roots of the two rows decide, and the lower root stays one. Assumes nothing.
+use Rattle.components.specs.Parents.{unites-same, unites-first, unites-second}
+use borrow.Author.Needs.{needs}
+use Rattle.components.proofs.parents.unite.Statement.{statement}
+use Rattle.components.proofs.parents.unite.Tie as tie
+
+find-requires : tie.Need-find-requires
+find-requires c κs = search needs
+
+find-requires-2 : tie.Need-find-requires-2
+find-requires-2 c κs = search needs
+
+cast-i : tie.Need-cast-i
+cast-i c = search needs
+
+mul-parent : tie.Need-mul-parent
+mul-parent c = search needs
+
+slice-write-parent : tie.Need-slice-write-parent
+slice-write-parent c = search needs
+
+returns : tie.Need-returns
+returns c = unites-second (c .before .before .before .before .before .before .before .before .before .before .find .ensures) (c .before .before .before .before .before .before .find2 .ensures) (search needs) (search needs)
+
+same-length : tie.Need-same-length
+same-length c = returns c .united .long
+
+cast-i-2 : tie.Need-cast-i-2
+cast-i-2 c = search needs
+
+mul-parent-2 : tie.Need-mul-parent-2
+mul-parent-2 c = search needs
+
+slice-write-parent-2 : tie.Need-slice-write-parent-2
+slice-write-parent-2 c = search needs
+
+returns-2 : tie.Need-returns-2
+returns-2 c = unites-first (c .before .before .before .before .before .before .before .before .before .before .before .before .before .find .ensures) (c .before .before .before .before .before .before .before .before .before .find2 .ensures) (search needs) (search needs)
+
+same-length-2 : tie.Need-same-length-2
+same-length-2 c = returns-2 c .united .long
+
+same-length-3 : tie.Need-same-length-3
+same-length-3 c = search needs
+
+returns-3 : tie.Need-returns-3
+returns-3 c = unites-same (c .before .before .before .before .before .before .before .before .before .before .before .before .find .ensures) (c .before .before .before .before .before .before .before .before .find2 .ensures) (search needs)
+
+pub unite-spec : {M : Type 1} → statement M
+unite-spec =
+    tie.close
+    (tie.spec
+    find-requires
+    find-requires-2
+    cast-i
+    mul-parent
+    slice-write-parent
+    same-length
+    returns
+    cast-i-2
+    mul-parent-2
+    slice-write-parent-2
+    same-length-2
+    returns-2
+    same-length-3
+    returns-3)

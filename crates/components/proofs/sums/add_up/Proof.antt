@@ -1,0 +1,71 @@
+-- `sums::add_up` meets its contract. The invariant: the rows before r are added up. The measure is what is left of the rows. Assumes nothing.
+use Rattle.math.specs.Xor.{_⊕_}
+use mathlib.Core.Path.{sym, _∙_}
+use Prim.Native.Nat.{_-_, _≤_}
+use native.Mathlib.Omega.{arith}
+use lib.ListN.{length}
+use Rattle.components.specs.Lists.{Adds, adds-more, adds-all}
+use Rattle.components.proofs.sums.add_up.Statement.{statement}
+use Rattle.components.proofs.sums.add_up.Tie as tie
+
+abbrev Inv-loop : tie.InvT-loop
+Inv-loop rows parent sum total₀ r₀ total r = Adds rows parent sum total r × (r ≤ rows)
+
+abbrev μ-loop : tie.MeasureT-loop
+μ-loop rows parent sum total₀ r₀ total r = rows - r
+
+loop-holds : tie.Need-loop-holds Inv-loop μ-loop
+loop-holds c = (c .pre .0, omega arith)
+
+mul-q : tie.Need-mul-q Inv-loop μ-loop
+mul-q c = omega arith
+
+shared-slice-read-q : tie.Need-shared-slice-read-q Inv-loop μ-loop
+shared-slice-read-q c = omega arith
+
+cast-q : tie.Need-cast-q Inv-loop μ-loop
+cast-q c = omega (arith, c .shared-slice-known .given (c .before .before .loop .r))
+
+slice-read-total : tie.Need-slice-read-total Inv-loop μ-loop
+slice-read-total c = omega (arith, c .before .before .before .before .pre .3 (c .before .before .before .loop .r) (c .before .before .loop-test .taken), c .before .before .before .loop .inv .0 .long)
+
+shared-slice-read-total : tie.Need-shared-slice-read-total Inv-loop μ-loop
+shared-slice-read-total c = omega (arith, c .before .before .before .before .before .pre .2, c .before .before .before .loop-test .taken)
+
+slice-write-total : tie.Need-slice-write-total Inv-loop μ-loop
+slice-write-total c = omega (arith, c .before .before .before .before .before .pre .3 (c .before .before .before .before .loop .r) (c .before .before .before .loop-test .taken), c .before .before .before .before .loop .inv .0 .long)
+
+add-r : tie.Need-add-r Inv-loop μ-loop
+add-r c = omega arith
+
+loop-less : tie.Need-loop-less Inv-loop μ-loop
+loop-less c = omega arith
+
+loop-again : tie.Need-loop-again Inv-loop μ-loop
+unfolding _⊕_
+loop-again c = (adds-more (c .before .before .before .before .loop .inv .0) (c .before .before .before .before .before .pre .3 (c .before .before .before .before .loop .r) (c .before .before .before .loop-test .taken)), omega (arith, c .before .before .before .loop-test .taken))
+
+same-length : tie.Need-same-length Inv-loop μ-loop
+same-length c = c .before .loop .inv .0 .long ∙ sym (c .before .before .pre .0 .long)
+
+returns : tie.Need-returns Inv-loop μ-loop
+returns c = adds-all (c .before .loop .inv .0) (c .loop-test .left) (c .before .loop .inv .1)
+
+pub add-up-spec : {M : Type 1} → statement M
+add-up-spec =
+    tie.close
+    (tie.spec
+    Inv-loop
+    μ-loop
+    loop-holds
+    mul-q
+    shared-slice-read-q
+    cast-q
+    slice-read-total
+    shared-slice-read-total
+    slice-write-total
+    add-r
+    loop-less
+    loop-again
+    same-length
+    returns)

@@ -1,0 +1,47 @@
+-- `walk::back8` meets its contract. The invariant: section and offset still give the place. The measure is what the offset lacks to 8. Assumes nothing.
+use Prim.Native.Nat.{_-_}
+use native.Mathlib.Omega.{arith}
+use Rattle.components.specs.Back.{Goes, goes-start, goes-pos, goes-more, goes-end}
+use Rattle.components.proofs.walk.back8.Statement.{statement}
+use Rattle.components.proofs.walk.back8.Tie as tie
+
+abbrev Inv-loop : tie.InvT-loop
+Inv-loop spot t section₀ offset₀ section offset = Goes t (spot .place .0) section offset
+
+abbrev μ-loop : tie.MeasureT-loop
+μ-loop spot t section₀ offset₀ section offset = 8 - offset
+
+loop-holds : tie.Need-loop-holds Inv-loop μ-loop
+loop-holds c = goes-start (c .pre .0) (c .pre .1)
+
+add-offset : tie.Need-add-offset Inv-loop μ-loop
+add-offset c = omega arith
+
+sub-section : tie.Need-sub-section Inv-loop μ-loop
+sub-section c = goes-pos (c .before .loop .inv) (c .loop-test .taken)
+
+loop-less : tie.Need-loop-less Inv-loop μ-loop
+loop-less c = omega arith
+
+loop-again : tie.Need-loop-again Inv-loop μ-loop
+loop-again c = goes-more (c .before .loop .inv) (c .loop-test .taken)
+
+sub-t6 : tie.Need-sub-t6 Inv-loop μ-loop
+sub-t6 c = omega arith
+
+returns : tie.Need-returns Inv-loop μ-loop
+returns c = (goes-end (c .before .before .loop .inv) (c .before .loop-test .left), omega arith)
+
+pub back8-spec : {M : Type 1} → statement M
+back8-spec =
+    tie.close
+    (tie.spec
+    Inv-loop
+    μ-loop
+    loop-holds
+    add-offset
+    sub-section
+    loop-less
+    loop-again
+    sub-t6
+    returns)

@@ -1,0 +1,85 @@
+// The sums of the components, and the rows of the first one whose sum is not 0.
+ghost use mathlib.Core.Path.{_≡_};
+ghost use Prim.Native.Nat.{ℕ, _+_, _*_, _≤_, _<_};
+ghost use lib.ListN.{length, getD, replicate};
+ghost use Rattle.components.specs.Lists.{Adds, First, Gathers};
+ghost use Rattle.components.specs.Shows.{Lent, Shows};
+use plan::Row;
+use tables::marks::clear_bytes;
+use tables::marks::clear_words;
+
+// The answer of crossed: every component sums to 0, or so many rows of the first that does not are written.
+pub enum Rows {
+    Balanced,
+    Crossed(usize),
+}
+
+// The sum of every row is added to its parent's.
+fn add_up(rows: usize, parent: &[u16], sum: &[u8], total: &mut [u8])
+    requires { ⌜ Adds rows (now parent) (now sum) (now total) 0 × (length (now parent) ≡ rows) × (length (now sum) ≡ rows) × ((r : ℕ) → r < rows → getD (now parent) r 0 < rows) ⌝ }
+    ensures { λ _. ⌜ Adds rows (now (parent .entry)) (now (sum .entry)) (now (total .exit)) rows ⌝ }
+{
+    let mut r = 0;
+    while r < rows {
+        let q = parent[r] as usize;
+        total[q] = total[q] ^ sum[r];
+        r += 1;
+    }
+}
+
+// The first row whose sum is not 0, or the number of rows.
+fn first(rows: usize, total: &[u8]) -> usize
+    requires { ⌜ length (now total) ≡ rows ⌝ }
+    ensures { λ r. ⌜ First rows (now (total .entry)) r ⌝ }
+{
+    let mut r = 0;
+    while r < rows {
+        if total[r] != 0 {
+            return r;
+        }
+        r += 1;
+    }
+    r
+}
+
+// Row s is written at z if its parent is q. The answer: the number of rows written.
+fn note(rows: usize, parent: &[u16], q: Row, witness: &mut [u16], s: usize, z: usize) -> usize
+    requires { ⌜ Gathers rows (now parent) (q .0) (now witness) z s × (length (now parent) ≡ rows) × (length (now witness) ≡ rows) × (rows ≤ 4096) × (s < rows) ⌝ }
+    ensures { λ r. ⌜ Gathers rows (now (parent .entry)) (q .0) (now (witness .exit)) r (s + 1) ⌝ }
+{
+    if parent[s] != q.0 {
+        return z;
+    }
+    witness[z] = s as u16;
+    z + 1
+}
+
+// The rows whose parent is q, rising. The answer: their number.
+fn gather(rows: usize, parent: &[u16], q: Row, witness: &mut [u16]) -> usize
+    requires { ⌜ (now witness ≡ replicate rows 0) × (length (now parent) ≡ rows) × (rows ≤ 4096) ⌝ }
+    ensures { λ r. ⌜ Gathers rows (now (parent .entry)) (q .0) (now (witness .exit)) r rows ⌝ }
+{
+    let mut z = 0;
+    let mut s = 0;
+    while s < rows {
+        z = note(rows, parent, q, &mut witness[..], s, z);
+        s += 1;
+    }
+    z
+}
+
+// Whether every component sums to 0, by the labels and sums of the rows; if not, the rows of the first that does not.
+pub fn crossed(t: usize, parent: &[u16], sum: &[u8], total: &mut [u8], witness: &mut [u16]) -> Rows
+    requires { ⌜ Lent t (now parent) (now sum) (now total) (now witness) ⌝ }
+    ensures { λ r. ⌜ Shows t (now (parent .entry)) (now (sum .entry)) (now (witness .entry)) (now (witness .exit)) r ⌝ }
+{
+    let rows = 2 * t;
+    clear_bytes(&mut total[..]);
+    add_up(rows, parent, sum, &mut total[..]);
+    let r = first(rows, &total[..]);
+    if rows <= r {
+        return Rows::Balanced;
+    }
+    clear_words(&mut witness[..]);
+    Rows::Crossed(gather(rows, parent, Row(r as u16), witness))
+}

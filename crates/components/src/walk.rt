@@ -1,0 +1,165 @@
+// The walk over the marked places, from the highest down: their rows are joined, and the first place that closes a cycle is remembered.
+ghost use mathlib.Core.Path.{_≡_};
+ghost use Prim.Native.Nat.{ℕ, _+_, _*_, _/_, _≤_, _<_};
+ghost use lib.ListN.{length, getD};
+ghost use Rattle.plan.specs.Layout.{layout};
+ghost use Rattle.code.specs.Marks.{mark, erasures};
+ghost use Rattle.tables.specs.Picture.{Sized};
+ghost use Rattle.tables.specs.Spots.{Stands};
+ghost use Rattle.components.specs.Walks.{closing, Labelled};
+ghost use Rattle.components.specs.Walking.{Walking, Joinable, UnitesAt, Passed};
+use crate::parents::own;
+use crate::parents::settle;
+use crate::parents::unite;
+use plan::Place;
+use tables::rows::bottom;
+use tables::rows::top;
+use tables::walk::Spot;
+
+// The highest place that closes a cycle of marked places.
+pub enum Closing {
+    At(Place),
+    None,
+}
+
+// Every place from the spot on is passed.
+pub struct Walk {
+    pub spot: Spot,
+    pub closing: Closing,
+}
+
+// One place back.
+fn back(spot: Spot, t: usize) -> Spot
+    requires { ⌜ Stands t (spot .place .0) (spot .section) (spot .offset) × (0 < spot .place .0) ⌝ }
+    ensures { λ r. ⌜ Stands t (r .place .0) (r .section) (r .offset) × (r .place .0 + 1 ≡ spot .place .0) ⌝ }
+{
+    let place = Place(spot.place.0 - 1);
+    if 0 < spot.offset {
+        return Spot {
+            place,
+            section: spot.section,
+            offset: spot.offset - 1,
+        };
+    }
+    Spot {
+        place,
+        section: spot.section - 1,
+        offset: t - 1,
+    }
+}
+
+// Eight places back.
+fn back8(spot: Spot, t: usize) -> Spot
+    requires { ⌜ Stands t (spot .place .0) (spot .section) (spot .offset) × (8 ≤ spot .place .0) × (t ≤ 2048) ⌝ }
+    ensures { λ r. ⌜ Stands t (r .place .0) (r .section) (r .offset) × (r .place .0 + 8 ≡ spot .place .0) ⌝ }
+{
+    let mut section = spot.section;
+    let mut offset = spot.offset;
+    while offset < 8 {
+        offset += t;
+        section -= 1;
+    }
+    Spot {
+        place: Place(spot.place.0 - 8),
+        section,
+        offset: offset - 8,
+    }
+}
+
+// The bit of place c.
+fn bit(marks: &[u8], c: Place) -> u8
+    requires { ⌜ c .0 / 8 < length (now marks) ⌝ }
+    ensures { λ r. ⌜ r ≡ mark (now (marks .entry)) (c .0) ⌝ }
+{
+    let i = c.0 as usize / 8;
+    let k = c.0 % 8;
+    (marks[i] >> k) % 2
+}
+
+// The answer once place c is passed, which closes a cycle or not.
+fn noted(k: Closing, closes: bool, c: Place) -> Closing
+    ensures { λ r. ⌜ r ≡ closing k closes c ⌝ }
+{
+    match k {
+        Closing::At(d) => Closing::At(d),
+        Closing::None => {
+            if closes {
+                Closing::At(c)
+            } else {
+                Closing::None
+            }
+        }
+    }
+}
+
+// The rows of the spot's place are joined. The answer: they were joined before.
+fn join(n: usize, t: usize, shifts: &[u16], parent: &mut [u16], spot: Spot) -> bool
+    requires { ⌜ Sized n t (now shifts) × Joinable n t (now parent) (spot .place .0) (spot .section) (spot .offset) ⌝ }
+    ensures { λ r. ⌜ UnitesAt (layout n t (now (shifts .entry))) (spot .place .0) (now (parent .entry)) (now (parent .exit)) r ⌝ }
+{
+    let section = spot.section;
+    unite(parent, top(spot), bottom(spot, t, shifts[section] as usize))
+}
+
+// One step of the walk: a byte of marks that is 0, or one place.
+fn step(n: usize, t: usize, shifts: &[u16], marks: &[u8], parent: &mut [u16], walk: Walk) -> Walk
+    requires { ⌜ Walking n t (now shifts) (now marks) (now parent) (walk .spot .place .0) (walk .spot .section) (walk .spot .offset) (walk .closing) × (0 < walk .spot .place .0) ⌝ }
+    ensures { λ r. ⌜ Walking n t (now (shifts .entry)) (now (marks .entry)) (now (parent .exit)) (r .spot .place .0) (r .spot .section) (r .spot .offset) (r .closing) × (r .spot .place .0 < walk .spot .place .0) ⌝ }
+{
+    let spot = walk.spot;
+    let k = walk.closing;
+    let c = spot.place.0 as usize;
+    if c % 8 == 0 {
+        let i = c / 8 - 1;
+        if marks[i] == 0 {
+            return Walk {
+                spot: back8(spot, t),
+                closing: k,
+            };
+        }
+    }
+    let at = back(spot, t);
+    if bit(marks, at.place) == 0 {
+        return Walk {
+            spot: at,
+            closing: k,
+        };
+    }
+    let closes = join(n, t, shifts, parent, at);
+    Walk {
+        spot: at,
+        closing: noted(k, closes, at.place),
+    }
+}
+
+// The whole walk, from a table in which every row is its own parent.
+fn pass(n: usize, t: usize, shifts: &[u16], marks: &[u8], parent: &mut [u16]) -> Closing
+    requires { ⌜ Walking n t (now shifts) (now marks) (now parent) (n * t) n 0 Closing.None ⌝ }
+    ensures { λ r. ⌜ Passed n t (now (shifts .entry)) (now (marks .entry)) (now (parent .exit)) r ⌝ }
+{
+    let mut left = n * t;
+    let mut walk = Walk {
+        spot: Spot {
+            place: Place(left as u16),
+            section: n,
+            offset: 0,
+        },
+        closing: Closing::None,
+    };
+    while 0 < left {
+        walk = step(n, t, shifts, marks, &mut parent[..], walk);
+        left = walk.spot.place.0 as usize;
+    }
+    walk.closing
+}
+
+// The label of every row, which is the lowest row of its component, and the highest place that closes a cycle.
+pub fn labels(n: usize, t: usize, shifts: &[u16], marks: &[u8], parent: &mut [u16]) -> Closing
+    requires { ⌜ Sized n t (now shifts) × (length (now marks) ≡ (n * t + 7) / 8) × (length (now parent) ≡ 2 * t) ⌝ }
+    ensures { λ r. ⌜ Labelled (layout n t (now (shifts .entry))) (erasures (layout n t (now (shifts .entry))) (now (marks .entry))) (now (parent .exit)) r ⌝ }
+{
+    own(&mut parent[..]);
+    let closing = pass(n, t, shifts, marks, &mut parent[..]);
+    settle(parent);
+    closing
+}

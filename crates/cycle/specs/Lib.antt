@@ -1,0 +1,4 @@
+-- Walking a cycle by the tables of its rows, and the cycle that a closing place makes.
+pub mod Coded
+pub mod Walks
+pub mod Shows

@@ -1,0 +1,228 @@
+-- The cycle of a closing place c: of the erasures from c on, peeling leaves those of rows with two, and among them the cycle.
+-- Main results: begun, stripped (the codes left walk the cycle), showing, and highest (no cycle has a higher lowest place).
+use mathlib.Core.Path.{_≡_, refl, sym, _∙_, ap, subst}
+use mathlib.Core.Logic.{_⊎_, inl, inr, by-cases}
+use mathlib.Core.List.{List, Memᴰ·cast}
+use Prim.Native.Nat.{ℕ, zero, suc, _+_, _-_, _*_, _/_, _%_, _≤_, _<_}
+use native.Mathlib.Decide.{decLt}
+use native.Mathlib.Nat.{mod-lt, div-lt-iff-lt-mul}
+use native.Mathlib.Omega.{arith}
+use lib.ListN.{length, getD, take, replicate, length-replicate}
+use lib.Seq.{length-take-le}
+use Rattle.math.specs.Members.{_∈_, isIn}
+use Rattle.math.specs.MembersLaws.{by-test, without-∈, rising-without}
+use Rattle.math.specs.Pigeonhole.{getD-∈, ∈-getD}
+use Rattle.math.specs.Xor.{_⊕_}
+use Rattle.plan.specs.Layout.{Layout, Valid, layout, top, bottom}
+use Rattle.code.specs.Codewords.{at, blank}
+use Rattle.code.specs.Marks.{NoSpare, erasures}
+use Rattle.code.specs.Cycles.{Cycle, Lowest}
+use Rattle.code.specs.Components.{Connected}
+use Rattle.code.specs.Laws.Forest.{Erased, Forest, above}
+use Rattle.code.specs.Laws.Basics.{meets-row}
+use Rattle.code.specs.Laws.Paths.{∈-above, erased-above, path}
+use Rattle.code.specs.Laws.CycleLaws.{cycle-length, forest-no-cycle}
+use Rattle.code.specs.Laws.MarksLaws.{erasures-erased}
+use Rattle.tables.specs.Picture.{Sized, codeOf, onRow, Picture, Stuck}
+use Rattle.tables.specs.Sizes.{sized-valid, sized-∈}
+use Rattle.tables.specs.Scan.{fromPlace, in-from, from-in}
+use Rattle.tables.specs.StuckLaws.{forest-sub, twos, met-two, cycle-survives, cycle-into, top-next, bottom-next, last-next}
+use Rattle.peel.specs.Peels.{Peelable, Peels, Peeled}
+use Rattle.math.specs.Padded.{padded}
+use Rattle.cycle.specs.Walks.{Walks, Walkable, Walked}
+
+-- c is the highest place that closes a cycle
+pub record Closing (n t : ℕ) (shifts marks : List ℕ) (c : ℕ) : Type 0 where
+  pub sized : Sized n t shifts
+  pub marks-long : length marks ≡ (n * t + 7) / 8
+  pub no-spare : NoSpare (layout n t shifts) marks
+  pub member : c ∈ erasures (layout n t shifts) marks
+  pub forest : Forest (layout n t shifts) (above c (erasures (layout n t shifts) marks))
+  pub connected : Connected (layout n t shifts) (above c (erasures (layout n t shifts) marks)) (top (layout n t shifts) c) (bottom (layout n t shifts) c)
+
+-- the work tables have an entry for each row
+pub record Room (t : ℕ) (sum left code queue place value : List ℕ) : Type 0 where
+  pub sum-long : length sum ≡ 2 * t
+  pub left-long : length left ≡ 2 * t
+  pub code-long : length code ≡ 2 * t
+  pub queue-long : length queue ≡ 2 * t
+  pub place-long : length place ≡ 2 * t
+  pub value-long : length value ≡ 2 * t
+
+-- the tables picture a block of zeros with the erasures from c on
+pub record Begun (n t : ℕ) (shifts marks : List ℕ) (c : ℕ) (sum left code : List ℕ) : Type 0 where
+  pub u : ℕ → ℕ
+  pub zeros : (d : ℕ) → u d ≡ 0
+  pub picture : Picture (layout n t shifts) (fromPlace c (erasures (layout n t shifts) marks)) u sum left code
+
+-- the codes on the rows walk the cycle of c
+pub record Stripped (n t : ℕ) (shifts marks : List ℕ) (c : ℕ) (code : List ℕ) : Type 0 where
+  pub long : length code ≡ 2 * t
+  pub cycle : List ℕ
+  pub is-cycle : Cycle (layout n t shifts) (erasures (layout n t shifts) marks) cycle
+  pub first : at cycle 0 ≡ c
+  pub walks : Walks n t shifts code (codeOf t c) cycle
+
+-- what `show` promises
+pub record Showing (n t : ℕ) (shifts marks : List ℕ) (c : ℕ) (w : List ℕ) (r : ℕ) : Type 0 where
+  pub cycle : List ℕ
+  pub is-cycle : Cycle (layout n t shifts) (erasures (layout n t shifts) marks) cycle
+  pub first : at cycle 0 ≡ c
+  pub counted : r ≡ length cycle
+  pub written : w ≡ padded (2 * t) cycle
+  pub highest : (k : List ℕ) → Cycle (layout n t shifts) (erasures (layout n t shifts) marks) k → at k 0 ≤ at cycle 0
+
+-- a place of a cycle is one of its erasures
+cycle-member : {L : Layout} {E l : List ℕ} → Cycle L E l → (c : ℕ) → c ∈ l → c ∈ E
+cycle-member cy c m = let k = ∈-getD m in Memᴰ·cast (sym (k .2)) (cy .inside (k .0) (k .1))
+
+-- and not below its first
+cycle-above : {L : Layout} {E l : List ℕ} → Cycle L E l → (c : ℕ) → c ∈ l → at l 0 ≤ c
+cycle-above cy c m = let k = ∈-getD m in omega (arith, cy .lowest (k .0) (k .1), k .2)
+
+-- the first place of a cycle
+cycle-first : {L : Layout} {E l : List ℕ} → Cycle L E l → at l 0 ∈ l
+cycle-first {l = l} cy = getD-∈ l (omega (arith, cy .even, cy .least))
+
+blank-zero : (E : List ℕ) (v : ℕ → ℕ) → ((c : ℕ) → v c ≡ 0) → (c : ℕ) → blank E v c ≡ 0
+unfolding blank
+blank-zero E v z c = by-test (isIn c E) (λ e. rw e) (λ e. rw e (z c))
+
+-- a part of a list of zeros
+pub zeros-long : (m k : ℕ) → m ≤ k → m ≡ length (take m (replicate {A = ℕ} k 0))
+zeros-long m k h = sym (length-take-le m (replicate k 0) (omega (arith, length-replicate {A = ℕ} k 0)))
+
+pub zeros-at : (m k d : ℕ) → getD (take m (replicate {A = ℕ} k 0)) d 0 ≡ 0
+zeros-at zero k d = refl
+zeros-at (suc m) zero d = refl
+zeros-at (suc m) (suc k) zero = refl
+zeros-at (suc m) (suc k) (suc d) = zeros-at m k d
+
+packed-code : (t c : ℕ) → c / t * 2048 + c % t ≡ codeOf t c
+unfolding codeOf
+packed-code t c = refl
+
+module _ (L : Layout) (ok : Valid L) {E : List ℕ} {c : ℕ} (er : Erased L E) (fo : Forest L (above c E)) where
+  -- a cycle with a higher lowest place would lie in the forest
+  pub highest : (k : List ℕ) → Cycle L E k → at k 0 ≤ c
+  highest k cy = by-cases (decLt c (at k 0))
+      (λ h. absurd (forest-no-cycle L ok (above c E) (erased-above c er) fo k
+      (cycle-into cy (λ d m. ∈-above (cycle-member cy d m) (omega (arith, cycle-above cy d m))))))
+      (λ h. omega arith)
+
+  module _ {F : List ℕ} {x : ℕ → ℕ} {sum left code : List ℕ} (pic : Picture L F x sum left code) (sub : (d : ℕ) → d ∈ F → d ∈ fromPlace c E) (st : Stuck L F)
+      {l : List ℕ} (cy : Cycle L F l) (e : at l 0 ≡ c) where
+    -- each row that a place of F meets has two
+    two-on : (d : ℕ) {r : ℕ} → d ∈ F → (r ≡ top L d) ⊎ (r ≡ bottom L d) → length (onRow L F r) ≡ 2
+    two-on d {r} m on = met-two L m on
+        (twos L ok (pic .erased .rising) (Memᴰ·cast (sym e) (cycle-member cy (at l 0) (cycle-first cy)))
+        (forest-sub L ok (erased-above c er .rising) (rising-without c (pic .erased .rising))
+        (λ d i. let k = without-∈ c F i in let j = from-in c E (sub d (k .0)) in ∈-above (j .0) (omega (arith, k .1, j .1))) fo)
+        st r (meets-row L ok d on))
+
+    row-top : (i : ℕ) → i < cy .half → getD code (top L (at l (2 * i))) 0 ≡ codeOf (L .t) (at l (2 * i)) ⊕ codeOf (L .t) (at l (2 * i + 1))
+    row-top i h =
+        pic .codes (top L (at l (2 * i))) (meets-row L ok (at l (2 * i)) (inl refl))
+        ∙ top-next (pic .erased .rising) cy i h (two-on (at l (2 * i)) (cy .inside (2 * i) (omega (arith, cy .even))) (inl refl)) (codeOf (L .t))
+
+    row-bottom : (i : ℕ) → i + 1 < cy .half → getD code (bottom L (at l (2 * i + 1))) 0 ≡ codeOf (L .t) (at l (2 * i + 1)) ⊕ codeOf (L .t) (at l (2 * i + 2))
+    row-bottom i h =
+        pic .codes (bottom L (at l (2 * i + 1))) (meets-row L ok (at l (2 * i + 1)) (inr refl))
+        ∙ bottom-next (pic .erased .rising) cy i h (two-on (at l (2 * i + 1)) (cy .inside (2 * i + 1) (omega (arith, cy .even))) (inr refl)) (codeOf (L .t))
+
+    row-last : getD code (bottom L (at l (length l - 1))) 0 ≡ codeOf (L .t) (at l (length l - 1)) ⊕ codeOf (L .t) (at l 0)
+    row-last =
+        pic .codes (bottom L (at l (length l - 1))) (meets-row L ok (at l (length l - 1)) (inr refl))
+        ∙ last-next (pic .erased .rising) cy (two-on (at l (length l - 1)) (cy .inside (length l - 1) (omega (arith, cy .even, cy .least))) (inr refl)) (codeOf (L .t))
+
+module _ {n t : ℕ} {shifts marks : List ℕ} {c : ℕ} (p : Closing n t shifts marks c) where
+  pub begun : {sum left code : List ℕ} (block : List ℕ) → ((d : ℕ) → getD block d 0 ≡ 0)
+      → Picture (layout n t shifts) (fromPlace c (erasures (layout n t shifts) marks)) (blank (fromPlace c (erasures (layout n t shifts) marks)) (λ d. getD block d 0)) sum left code
+      → Begun n t shifts marks c sum left code
+  begun block z pic = record { u = _; zeros = blank-zero (fromPlace c (erasures (layout n t shifts) marks)) (λ d. getD block d 0) z; picture = pic }
+
+  pub stripped : {sum left code sum' left' code' place value : List ℕ} {r : ℕ} → Begun n t shifts marks c sum left code
+      → Peels (layout n t shifts) sum left code sum' left' code' place value r → Stripped n t shifts marks c code'
+  unfolding layout
+  stripped {sum' = sum'} {left' = left'} {code' = code'} {place = place} {value = value} {r = r} b peels =
+      record {
+        long = q .picture .code-long;
+        cycle = l;
+        is-cycle = w .is-cycle;
+        first = w .first;
+        walks = record {
+          half = cy .half;
+          even = cy .even;
+          least = cy .least;
+          short = cycle-length L ok F l cy;
+          inside = λ i h. sized-∈ (p .sized) (q .picture .erased .inside (at l i) (cy .inside i h));
+          once = λ i h e. cy .distinct i 0 h (omega (arith, cy .even, cy .least)) e;
+          start = ap (codeOf t) (sym (w .first));
+          tops = row-top L ok er (p .forest) (q .picture) (q .settles .fewer) (q .stuck) cy (w .first);
+          bottoms = row-bottom L ok er (p .forest) (q .picture) (q .settles .fewer) (q .stuck) cy (w .first);
+          close = row-last L ok er (p .forest) (q .picture) (q .settles .fewer) (q .stuck) cy (w .first);
+        };
+      }
+    where
+      L : Layout
+      L = layout n t shifts
+
+      E : List ℕ
+      E = erasures L marks
+
+      ok : Valid L
+      ok = sized-valid (p .sized)
+
+      er : Erased L E
+      er = erasures-erased L marks
+
+      w : Lowest L E c
+      w = path L ok E c er (p .member) .0 (p .connected)
+
+      l : List ℕ
+      l = w .cycle
+
+      q : Peeled L (fromPlace c E) (b .u) sum' left' code' place value r
+      q = peels .peeled (fromPlace c E) (b .u) (b .picture)
+
+      F : List ℕ
+      F = q .F
+
+      inner : Cycle L (fromPlace c E) l
+      inner = cycle-into (w .is-cycle) (λ d m. in-from (cycle-member (w .is-cycle) d m) (omega (arith, cycle-above (w .is-cycle) d m, w .first)))
+
+      cy : Cycle L F l
+      cy = cycle-into inner (cycle-survives L ok (q .settles) (b .zeros) (b .picture .erased) inner)
+
+  pub closing-inside : c < n * t
+  closing-inside = sized-∈ (p .sized) (erasures-erased (layout n t shifts) marks .inside c (p .member))
+
+  pub closing-section : c / t < 32
+  closing-section = let h : c / t < n = div-lt-iff-lt-mul {y = n} (p .sized .t-min) .1 closing-inside in omega (arith, p .sized .n-max)
+
+  pub closing-offset : c % t < 2048
+  closing-offset = omega (arith, mod-lt c (p .sized .t-min), p .sized .t-max)
+
+  pub peelable : {sum left code queue place value : List ℕ} → Begun n t shifts marks c sum left code
+      → length queue ≡ 2 * t → length place ≡ 2 * t → length value ≡ 2 * t → Peelable n t shifts sum left code queue place value
+  peelable b lq lp lv =
+      record { sized = p .sized; pictured = record { E = _; u = _; picture = b .picture }; queue-long = lq; place-long = lp; value-long = lv }
+
+  walks-from : {code : List ℕ} {k : ℕ} (s : Stripped n t shifts marks c code) → k ≡ c / t * 2048 + c % t → Walks n t shifts code k (s .cycle)
+  walks-from {code = code} s e = subst (λ i. Walks n t shifts code i (s .cycle)) (sym (e ∙ packed-code t c)) (s .walks)
+
+  pub walkable : {code : List ℕ} {k : ℕ} → Stripped n t shifts marks c code → k ≡ c / t * 2048 + c % t → Walkable n t shifts code k
+  walkable s e = record { sized = p .sized; long = s .long; cycle = s .cycle; walks = walks-from s e }
+
+  pub showing : {code w : List ℕ} {k r : ℕ} → Stripped n t shifts marks c code → k ≡ c / t * 2048 + c % t → Walked n t shifts code k w r
+      → Showing n t shifts marks c w r
+  showing s e v =
+      let g = walks-from s e in
+      record {
+        cycle = s .cycle;
+        is-cycle = s .is-cycle;
+        first = s .first;
+        counted = v .counted (s .cycle) g;
+        written = v .written (s .cycle) g;
+        highest = λ m cy. rw (s .first) (highest (layout n t shifts) (sized-valid (p .sized)) (erasures-erased (layout n t shifts) marks) (p .forest) m cy);
+      }

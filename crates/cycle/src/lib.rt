@@ -1,0 +1,127 @@
+// The cycle of erasures that a closing place makes: walking it by the row tables.
+ghost use mathlib.Core.Path.{_≡_};
+ghost use Prim.Native.Nat.{_*_};
+ghost use lib.ListN.{length};
+ghost use Rattle.cycle.specs.Shows.{Closing, Room, Begun, Stripped, Showing};
+use crate::walk::walk;
+use peel::peel;
+use plan::Place;
+use tables::packed::pack;
+use tables::picture;
+
+pub mod walk;
+
+// The tables of a block of zeros with the erasures from c on.
+fn picture_from(
+    n: usize,
+    t: usize,
+    shifts: &[u16],
+    marks: &[u8],
+    c: Place,
+    sum: &mut [u8],
+    left: &mut [u16],
+    code: &mut [u16],
+)
+    requires { ⌜ Closing n t (now shifts) (now marks) (c .0) ⌝ }
+    requires { ⌜ (length (now sum) ≡ 2 * t) × (length (now left) ≡ 2 * t) × (length (now code) ≡ 2 * t) ⌝ }
+    ensures { λ _. ⌜ Begun n t (now (shifts .entry)) (now (marks .entry)) (c .0) (now (sum .exit)) (now (left .exit)) (now (code .exit)) ⌝ }
+{
+    let zeros = [0u8; 32768];
+    let places = n * t;
+    picture(
+        n,
+        t,
+        shifts,
+        &zeros[..places],
+        marks,
+        c,
+        &mut sum[..],
+        &mut left[..],
+        &mut code[..],
+    );
+}
+
+// Peels the erasures from c on: each row that is left has two of them or none.
+fn strip(
+    n: usize,
+    t: usize,
+    shifts: &[u16],
+    marks: &[u8],
+    c: Place,
+    sum: &mut [u8],
+    left: &mut [u16],
+    code: &mut [u16],
+    queue: &mut [u16],
+    place: &mut [u16],
+    value: &mut [u8],
+)
+    requires { ⌜ Closing n t (now shifts) (now marks) (c .0) ⌝ }
+    requires { ⌜ Room t (now sum) (now left) (now code) (now queue) (now place) (now value) ⌝ }
+    ensures { λ _. ⌜ Stripped n t (now (shifts .entry)) (now (marks .entry)) (c .0) (now (code .exit)) ⌝ }
+{
+    picture_from(
+        n,
+        t,
+        shifts,
+        marks,
+        c,
+        &mut sum[..],
+        &mut left[..],
+        &mut code[..],
+    );
+    peel(
+        n,
+        t,
+        shifts,
+        &mut sum[..],
+        &mut left[..],
+        &mut code[..],
+        &mut queue[..],
+        &mut place[..],
+        &mut value[..],
+    );
+}
+
+// Writes the cycle whose lowest place is c, the highest that closes one, and zeros after it; gives its length.
+pub fn show(
+    n: usize,
+    t: usize,
+    shifts: &[u16],
+    marks: &[u8],
+    c: Place,
+    sum: &mut [u8],
+    left: &mut [u16],
+    code: &mut [u16],
+    queue: &mut [u16],
+    place: &mut [u16],
+    value: &mut [u8],
+    witness: &mut [u16],
+) -> usize
+    requires { ⌜ Closing n t (now shifts) (now marks) (c .0) ⌝ }
+    requires { ⌜ Room t (now sum) (now left) (now code) (now queue) (now place) (now value) ⌝ }
+    requires { ⌜ length (now witness) ≡ 2 * t ⌝ }
+    ensures { λ r. ⌜ Showing n t (now (shifts .entry)) (now (marks .entry)) (c .0) (now (witness .exit)) r ⌝ }
+{
+    strip(
+        n,
+        t,
+        shifts,
+        marks,
+        c,
+        &mut sum[..],
+        &mut left[..],
+        &mut code[..],
+        &mut queue[..],
+        &mut place[..],
+        &mut value[..],
+    );
+    let first = c.0 as usize;
+    walk(
+        n,
+        t,
+        shifts,
+        &code[..],
+        pack(first / t, first % t),
+        &mut witness[..],
+    )
+}

@@ -1,0 +1,14 @@
+// The number of check places (01), here parity places: 2t - g.
+ghost use mathlib.Core.Path.{_≡_};
+ghost use Prim.Native.Nat.{_-_, _*_};
+ghost use Rattle.plan.specs.Layout.{layout, divisor};
+ghost use Rattle.figures.specs.Sections.{Usable};
+use plan::shifts;
+
+pub fn count(n: usize, t: usize, s: &[u16]) -> usize
+    requires { ⌜ Usable n t (now s) ⌝ }
+    ensures { λ r. ⌜ r ≡ 2 * t - divisor (layout n t (now (s .entry))) ⌝ }
+{
+    let g = shifts::divisor(t, &s[..n]);
+    2 * t - g
+}

@@ -1,0 +1,38 @@
+-- `queue::enter` meets its contract. Assumes nothing.
+use borrow.Author.Needs.{needs}
+use lib.ListN.{length}
+use mathlib.Core.Path.{refl}
+use native.Mathlib.Omega.{arith}
+use Prim.Native.Nat.{_<_}
+use Rattle.peel.proofs.queue.enter.Statement.{statement}
+use Rattle.peel.proofs.queue.enter.Tie as tie
+
+cast-r : tie.Need-cast-r
+cast-r c = search needs
+
+mul-if1 : tie.Need-mul-if1
+mul-if1 c = search needs
+
+shared-slice-read-if1 : tie.Need-shared-slice-read-if1
+shared-slice-read-if1 c = search needs
+
+returns : tie.Need-returns
+returns c = record { enters = λ e. absurd (c .if1 .taken e); stays = λ n. (refl, refl) }
+
+mul-queue : tie.Need-mul-queue
+mul-queue c = omega (arith, c .before .before .before .pre .1 (c .if1 .left))
+
+slice-write-queue : tie.Need-slice-write-queue
+slice-write-queue c = c .before .before .before .pre .1 (c .if1 .left)
+
+add-result : tie.Need-add-result
+add-result c = omega (arith, c .before .before .before .pre .1 (c .if1 .left))
+
+same-length : tie.Need-same-length
+same-length c = search needs
+
+returns-2 : tie.Need-returns-2
+returns-2 c = record { enters = λ e. (refl, refl); stays = λ n. absurd (n (c .if1 .left)) }
+
+pub enter-spec : {M : Type 1} → statement M
+enter-spec = tie.close (tie.spec cast-r mul-if1 shared-slice-read-if1 returns mul-queue slice-write-queue add-result same-length returns-2)

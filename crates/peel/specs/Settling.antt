@@ -1,0 +1,139 @@
+-- Settling one erasure: what a row with one erasure left says, and the list of settled places.
+-- Main results: single (its only place, read off the code), row-forces (T1: the row's sum is the symbol of every codeword that agrees),
+-- settles-none and settles-more.
+use mathlib.Core.Path.{_≡_, refl, sym, _∙_, ap, subst}
+use mathlib.Core.Logic.{by-cases}
+use mathlib.Core.List.{List, [], _∷_, List·Memᴰ·eq-of-singleton, Memᴰ·cast}
+use mathlib.Core.List.{List·Memᴰ·head as here}
+use Prim.Native.Nat.{ℕ, _+_, _*_, _/_, _%_, _≤_, _<_}
+use native.Mathlib.Decide.{ℕ-discrete}
+use native.Mathlib.Omega.{arith}
+use lib.ListN.{length, getD, set}
+use lib.Seq.{getD-set-same, getD-set-other}
+use Rattle.math.specs.Members.{_∈_, without}
+use Rattle.math.specs.MembersLaws.{decIn, ∈-keep, keep-∈, ∈-without, without-∈}
+use Rattle.math.specs.Xor.{⊕-zero}
+use Rattle.math.specs.Sums.{xorOver, only}
+use Rattle.math.specs.SumsLaws.{only-lt, xorOver-lt}
+use Rattle.plan.specs.Layout.{Layout, Valid, placeOf}
+use Rattle.code.specs.Places.{places, Meets, meets}
+use Rattle.code.specs.Codewords.{syndrome, blank}
+use Rattle.code.specs.Checks.{update}
+use Rattle.code.specs.Laws.Basics.{place-split, meets-true, true-meets, syndrome-ext}
+use Rattle.code.specs.Laws.Settle.{update-same, update-other, blank-in, blank-out, row-forced}
+use Rattle.tables.specs.Picture.{codeOf, onRow, Picture, Settles}
+use Rattle.tables.specs.Codes.{code-section, code-offset}
+
+-- the erasures on a row
+pub onRow-∈ : (L : Layout) (E : List ℕ) (r : ℕ) {c : ℕ} → c ∈ onRow L E r → (c ∈ E) × Meets L c r
+unfolding onRow
+onRow-∈ L E r {c} m = let k = keep-∈ (λ d. meets L d r) E m in (k .0, true-meets L c r (k .1))
+
+pub ∈-onRow : (L : Layout) {E : List ℕ} {r c : ℕ} → c ∈ E → Meets L c r → c ∈ onRow L E r
+unfolding onRow
+∈-onRow L {r = r} {c = c} m h = ∈-keep (λ d. meets L d r) m (meets-true L c h)
+
+pub syndrome-byte : (L : Layout) (u : ℕ → ℕ) (r : ℕ) → ((c : ℕ) → u c < 256) → syndrome L u r < 256
+unfolding syndrome
+syndrome-byte L u r h =
+    xorOver-lt 8 (places L) (λ c. only (meets L c r) (u c)) (λ c m. only-lt (meets L c r) (h c) (omega arith))
+
+-- c is the only erasure on row r, and k is its code
+pub record Single (L : Layout) (E : List ℕ) (r k c : ℕ) : Type 0 where
+  pub member : c ∈ E
+  pub inside : c ∈ places L
+  pub meet : Meets L c r
+  pub sole : (d : ℕ) → d ∈ E → Meets L d r → d ≡ c
+  pub packed : codeOf (L .t) c ≡ k
+  pub section : k / 2048 ≡ c / L .t
+  pub offset : k % 2048 ≡ c % L .t
+  pub number : placeOf (L .t) (k / 2048) (k % 2048) ≡ c
+
+one-member : (l : List ℕ) → length l ≡ 1 → (c : ℕ) × (l ≡ c ∷ [])
+one-member [] e = absurd (omega arith)
+one-member (c ∷ []) e = (c, refl)
+one-member (c ∷ (d ∷ l)) e = absurd (omega arith)
+
+xorOver-single : (c : ℕ) (f : ℕ → ℕ) → xorOver (c ∷ []) f ≡ f c
+unfolding xorOver
+xorOver-single c f = ⊕-zero (f c)
+
+single-of : (L : Layout) → Valid L → L .t ≤ 2048 → {E : List ℕ} {u : ℕ → ℕ} {sum left code : List ℕ} → Picture L E u sum left code
+    → {r : ℕ} → r < 2 * L .t → (c : ℕ) → onRow L E r ≡ c ∷ [] → Single L E r (getD code r 0) c
+single-of L ok g {E} {code = code} p {r} h c o =
+    let k : codeOf (L .t) c ≡ getD code r 0 = sym (p .codes r h ∙ ap (λ K. xorOver K (codeOf (L .t))) o ∙ xorOver-single c (codeOf (L .t))) in
+    let a : getD code r 0 / 2048 ≡ c / L .t = ap (λ x. x / 2048) (sym k) ∙ code-section (L .t) (ok .positive) g c in
+    let b : getD code r 0 % 2048 ≡ c % L .t = ap (λ x. x % 2048) (sym k) ∙ code-offset (L .t) (ok .positive) g c in
+    let f = onRow-∈ L E r (subst (λ l. c ∈ l) (sym o) (here refl)) in
+    record {
+      member = f .0;
+      inside = p .erased .inside c (f .0);
+      meet = f .1;
+      sole = λ d m y. List·Memᴰ·eq-of-singleton (subst (λ l. d ∈ l) o (∈-onRow L m y));
+      packed = k;
+      section = a;
+      offset = b;
+      number = rw (a, b) (place-split (L .t) c);
+    }
+
+pub single : (L : Layout) → Valid L → L .t ≤ 2048 → {E : List ℕ} {u : ℕ → ℕ} {sum left code : List ℕ} → Picture L E u sum left code
+    → {r : ℕ} → r < 2 * L .t → getD left r 0 ≡ 1 → Single L E r (getD code r 0) (placeOf (L .t) (getD code r 0 / 2048) (getD code r 0 % 2048))
+single L ok g {E} {code = code} p {r} h e =
+    let o = one-member (onRow L E r) (sym (p .lefts r h) ∙ e) in
+    let s = single-of L ok g p h (o .0) (o .1) in
+    subst (λ c. Single L E r (getD code r 0) c) (sym (s .number)) s
+
+-- T1: the sum of a row with one erasure left is the symbol of every codeword that agrees
+pub row-forces : (L : Layout) {E : List ℕ} (u w : ℕ → ℕ) {r k c : ℕ} → Single L E r k c → ((d : ℕ) → d ∈ E → u d ≡ 0) → syndrome L w r ≡ 0
+    → ((d : ℕ) → d ∈ places L → ¬ (d ∈ E) → w d ≡ u d) → w c ≡ syndrome L u r
+row-forces L {E} u w {r} {k} {c} s z e h =
+    row-forced L E u r c (s .inside) (s .meet) (s .member) (λ d _ y m. s .sole d m y) w e h
+    ∙ syndrome-ext L (blank E u) u r (λ d _. by-cases (decIn d E) (λ m. blank-in u m ∙ sym (z d m)) (λ n. blank-out u n))
+
+-- nothing is settled yet
+pub settles-none : (L : Layout) (E : List ℕ) (u : ℕ → ℕ) (place value : List ℕ) → Settles L E u E u place value 0
+settles-none L E u place value = record {
+  fewer = λ c m. m;
+  kept = λ c n. refl;
+  forced = λ w z h. h;
+  listed = λ c m n. absurd (n m);
+  settled = λ i h. absurd (omega arith);
+}
+
+-- one place more
+pub settles-more : (L : Layout) {E F : List ℕ} {u x : ℕ → ℕ} {place value place' value' : List ℕ} {k c y : ℕ} → Settles L E u F x place value k
+    → k < length place → k < length value → place' ≡ set place k c → value' ≡ set value k y → c ∈ F
+    → ((w : ℕ → ℕ) → ((r : ℕ) → r < 2 * L .t → syndrome L w r ≡ 0) → ((d : ℕ) → d ∈ places L → ¬ (d ∈ F) → w d ≡ x d) → w c ≡ y)
+    → Settles L E u (without c F) (update x c y) place' value' (k + 1)
+settles-more L {E} {F} {u} {x} {place} {value} {place'} {value'} {k} {c} {y} s hp hv ep ev m f = record {
+  fewer = λ d i. s .fewer d (without-∈ c F i .0);
+  kept = λ d n. update-other x c y (λ e. n (Memᴰ·cast e (s .fewer c m))) ∙ s .kept d n;
+  forced = λ w z h d i n.
+      by-cases (ℕ-discrete d c)
+      (λ e. rw e (f w z (s .forced w z h) ∙ sym (update-same x c y)))
+      (λ e. s .forced w z h d i (λ o. n (∈-without o e)) ∙ sym (update-other x c y e));
+  listed = λ d i n.
+      by-cases (ℕ-discrete d c)
+      (λ e. (k, omega arith, last-place ∙ sym e))
+      (λ e. let o = s .listed d i (λ q. n (∈-without q e)) in (o .0, omega (arith, o .1), early-place (o .0) (o .1) ∙ o .2));
+  settled = λ i h.
+      by-cases (ℕ-discrete i k)
+      (λ e. rw (e, last-place, last-value) (s .fewer c m, (λ o. without-∈ c F o .1 refl), sym (update-same x c y)))
+      (λ e.
+      let l : i < k = omega arith in
+      let o = s .settled i l in
+      rw (early-place i l, early-value i l)
+      (o .0, (λ q. o .1 (without-∈ c F q .0)), o .2 ∙ sym (update-other x c y (λ q. o .1 (Memᴰ·cast q m)))));
+}
+  where
+    last-place : getD place' k 0 ≡ c
+    last-place = ap (λ l. getD l k 0) ep ∙ getD-set-same place k c 0 hp
+
+    last-value : getD value' k 0 ≡ y
+    last-value = ap (λ l. getD l k 0) ev ∙ getD-set-same value k y 0 hv
+
+    early-place : (i : ℕ) → i < k → getD place' i 0 ≡ getD place i 0
+    early-place i l = ap (λ l. getD l i 0) ep ∙ getD-set-other place k i c 0 (λ e. omega arith)
+
+    early-value : (i : ℕ) → i < k → getD value' i 0 ≡ getD value i 0
+    early-value i l = ap (λ l. getD l i 0) ev ∙ getD-set-other value k i y 0 (λ e. omega arith)

@@ -1,0 +1,115 @@
+-- `runs` meets its contract. The loop's invariant: the runs from j on are known, and the divisor there. Assumes nothing.
+use mathlib.Core.Path.{_≡_, refl, _∙_, ap, ap₂}
+use Prim.Native.Nat.{ℕ, _-_}
+use native.Mathlib.Omega.{arith}
+use lib.ListN.{getD}
+use Rattle.math.specs.Gcd.{gcd, gap}
+use Rattle.runs.specs.Laws.Computing.{Known, known-start, known-more, known-fits, known-end}
+use borrow.Author.Needs.{needs}
+use Rattle.runs.proofs.runs.Statement.{statement}
+use Rattle.runs.proofs.runs.Tie as tie
+
+abbrev Inv-loop : tie.InvT-loop
+Inv-loop n t shifts r₀ last g₀ j₀ r g j = (last ≡ getD shifts (n - 1) 0) × Known n t shifts j g r
+
+abbrev μ-loop : tie.MeasureT-loop
+μ-loop n t shifts r₀ last g₀ j₀ r g j = j
+
+sub-wide : tie.Need-sub-wide Inv-loop μ-loop
+sub-wide c = search needs
+
+mul-wide : tie.Need-mul-wide Inv-loop μ-loop
+mul-wide c = search needs
+
+shared-slice-read-wide : tie.Need-shared-slice-read-wide Inv-loop μ-loop
+shared-slice-read-wide c = search needs
+
+wide-requires : tie.Need-wide-requires Inv-loop μ-loop
+wide-requires c κs = search needs
+
+sub-j : tie.Need-sub-j Inv-loop μ-loop
+sub-j c = search needs
+
+loop-holds : tie.Need-loop-holds Inv-loop μ-loop
+loop-holds c = (search needs, known-start _ _ _ (c .before .before .before .pre) refl)
+
+sub-j-2 : tie.Need-sub-j-2 Inv-loop μ-loop
+sub-j-2 c = search needs
+
+mul-wide-2 : tie.Need-mul-wide-2 Inv-loop μ-loop
+mul-wide-2 c = search needs
+
+shared-slice-read-wide-2 : tie.Need-shared-slice-read-wide-2 Inv-loop μ-loop
+shared-slice-read-wide-2 c = search needs
+
+wide-requires-2 : tie.Need-wide-requires-2 Inv-loop μ-loop
+wide-requires-2 c κs = search needs
+
+gap-requires : tie.Need-gap-requires Inv-loop μ-loop
+gap-requires c κs = search needs
+
+gcd-requires : tie.Need-gcd-requires Inv-loop μ-loop
+gcd-requires c κs = search needs
+
+sub-r : tie.Need-sub-r Inv-loop μ-loop
+sub-r c =
+    let k = known-fits _ _ _ (c .before .before .before .before .before .before .before .before .before .pre) (c .before .gap .result) (c .before .before .before .before .before .loop .inv .1) in
+    omega (arith, k .0, k .1, c .gcd .ensures)
+
+add-r : tie.Need-add-r Inv-loop μ-loop
+add-r c =
+    let k = known-fits _ _ _ (c .before .before .before .before .before .before .before .before .before .pre) (c .before .gap .result) (c .before .before .before .before .before .loop .inv .1) in
+    omega (arith, k .0, k .1, c .gcd .ensures)
+
+cast-r : tie.Need-cast-r Inv-loop μ-loop
+cast-r c =
+    let k = known-fits _ _ _ (c .before .before .before .before .before .before .before .before .before .pre) (c .before .gap .result) (c .before .before .before .before .before .loop .inv .1) in
+    omega (arith, k .0, k .1, c .gcd .ensures, c .before .before .before .before .before .before .before .before .before .pre .t-max)
+
+mul-r : tie.Need-mul-r Inv-loop μ-loop
+mul-r c = search needs
+
+array-write-r : tie.Need-array-write-r Inv-loop μ-loop
+array-write-r c = search needs
+
+loop-less : tie.Need-loop-less Inv-loop μ-loop
+loop-less c = search needs
+
+loop-again : tie.Need-loop-again Inv-loop μ-loop
+loop-again c =
+    let inv = c .before .before .before .before .before .loop .inv in (
+      inv .0,
+      known-more _ _ _ (c .before .before .before .before .before .before .before .before .before .pre) (inv .1) (omega arith)
+          (c .gcd .ensures ∙ ap (λ (x : ℕ). gcd x (c .before .before .before .before .before .loop .g)) (c .before .gap .ensures ∙ ap₂ gap (c .before .before .wide2 .ensures) (inv .0)))
+          refl refl,
+    )
+
+returns : tie.Need-returns Inv-loop μ-loop
+returns c = known-end _ _ _ (c .before .before .before .before .before .pre) (c .before .loop .inv .1) (omega arith)
+
+pub runs-spec : {M : Type 1} → statement M
+runs-spec =
+    tie.close
+    (tie.spec
+    Inv-loop
+    μ-loop
+    sub-wide
+    mul-wide
+    shared-slice-read-wide
+    wide-requires
+    sub-j
+    loop-holds
+    sub-j-2
+    mul-wide-2
+    shared-slice-read-wide-2
+    wide-requires-2
+    gap-requires
+    gcd-requires
+    sub-r
+    add-r
+    cast-r
+    mul-r
+    array-write-r
+    loop-less
+    loop-again
+    returns)

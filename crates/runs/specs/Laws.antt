@@ -1,0 +1,6 @@
+-- The laws of runs.
+pub mod Computing
+pub mod Fronts
+pub mod Copying
+pub mod Marking
+pub mod Carried

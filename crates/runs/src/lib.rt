@@ -1,0 +1,93 @@
+// The runs of message places: of each section the number of its first places that carry the message.
+// Entries: runs, gather, spread, parity_marks.
+// The modules marks and parts are public for the crates above only.
+ghost use mathlib.Core.Path.{_≡_};
+ghost use Prim.Native.Nat.{_+_, _*_, _/_};
+ghost use mathlib.Core.List.{map};
+ghost use lib.ListN.{getD, replicate};
+ghost use Rattle.code.specs.Laws.ParityCount.{messages};
+ghost use Rattle.plan.specs.Layout.{Layout, layout};
+ghost use Rattle.runs.specs.Sized.{Sized};
+ghost use Rattle.runs.specs.Runs.{RunsOf, Runs, Lent, Spread, Marked};
+use plan::Place;
+use plan::gcd;
+use plan::shifts::gap;
+use plan::shifts::wide;
+
+pub mod marks;
+pub mod parts;
+
+// From the last section down, with the divisor of the differences so far.
+pub fn runs(n: usize, t: usize, shifts: &[u16]) -> [u16; 32]
+    requires { ⌜ Sized n t (now shifts) ⌝ }
+    ensures { λ r. ⌜ RunsOf n t (layout n t (now (shifts .entry))) r ⌝ }
+{
+    let mut r = [0u16; 32];
+    let last = wide(shifts[n - 1]);
+    let mut g = t;
+    let mut j = n - 1;
+    while 0 < j {
+        j -= 1;
+        let h = gcd(gap(wide(shifts[j]), last), g);
+        r[j] = (t - g + h) as u16;
+        g = h;
+    }
+    r
+}
+
+// The message of a block.
+pub fn gather(n: usize, t: usize, runs: &[u16], block: &[u8], message: &mut [u8])
+    requires { ⌜ Lent n t (now runs) (now block) (now message) ⌝ }
+    ensures { λ _. ⌜ ((L : Layout) → RunsOf n t L (now (runs .entry)) → now (message .exit) ≡ map (λ c. getD (now (block .entry)) c 0) (messages L)) ⌝ }
+{
+    let mut from = 0;
+    let mut done = 0;
+    let mut j = 0;
+    while j < n {
+        let run = wide(runs[j]);
+        let end = from + run;
+        let next = done + run;
+        parts::copy(&block[from..end], &mut message[done..next]);
+        from += t;
+        done = next;
+        j += 1;
+    }
+}
+
+// The message at its places of a block, and 0 at the parity places.
+pub fn spread(n: usize, t: usize, runs: &[u16], message: &[u8], block: &mut [u8])
+    requires { ⌜ Lent n t (now runs) (now block) (now message) ⌝ }
+    ensures { λ _. ⌜ ((L : Layout) → RunsOf n t L (now (runs .entry)) → Spread L (now (message .entry)) (now (block .exit))) ⌝ }
+{
+    let mut from = 0;
+    let mut done = 0;
+    let mut j = 0;
+    while j < n {
+        let run = wide(runs[j]);
+        let end = from + run;
+        let next = done + run;
+        let stop = from + t;
+        parts::copy(&message[done..next], &mut block[from..end]);
+        parts::clear(&mut block[end..stop]);
+        from = stop;
+        done = next;
+        j += 1;
+    }
+}
+
+// The bits of the parity places; they must be 0 before.
+pub fn parity_marks(n: usize, t: usize, runs: &[u16], marks: &mut [u8])
+    requires { ⌜ Runs n t (now runs) ⌝ }
+    requires { ⌜ now marks ≡ replicate ((n * t + 7) / 8) 0 ⌝ }
+    ensures { λ _. ⌜ ((L : Layout) → RunsOf n t L (now (runs .entry)) → Marked L (now (marks .exit))) ⌝ }
+{
+    let mut from = 0;
+    let mut j = 0;
+    while j < n {
+        let run = wide(runs[j]);
+        let start = from + run;
+        marks::set_run(Place(start as u16), t - run, &mut marks[..]);
+        from += t;
+        j += 1;
+    }
+}

@@ -1,0 +1,11 @@
+-- The row tables of a block with erasures, and what it is to settle erasures.
+pub mod Picture
+pub mod Codes
+pub mod Spots
+pub mod PictureLaws
+pub mod Sizes
+pub mod SumLaws
+pub mod Filling
+pub mod Bounds
+pub mod Scan
+pub mod StuckLaws

@@ -1,0 +1,63 @@
+-- What the row tables hold. A block with erasures is pictured by three tables with an entry for each row: its sum, the number of erasures
+-- left on it, and the exclusive or of their codes. When one erasure is left on a row, the last entry is that place's code.
+use mathlib.Core.Path.{_≡_}
+use mathlib.Core.Logic.{_≢_}
+use mathlib.Core.List.{List}
+use Prim.Native.Nat.{ℕ, _+_, _*_, _/_, _%_, _≤_, _<_}
+use lib.ListN.{length, getD}
+use Rattle.math.specs.Members.{_∈_, keep}
+use Rattle.math.specs.Sums.{xorOver}
+use Rattle.plan.specs.Layout.{Layout, layout}
+use Rattle.code.specs.Places.{places, meets}
+use Rattle.code.specs.Codewords.{syndrome}
+use Rattle.code.specs.Laws.Forest.{Erased}
+
+-- n, t and the first n of the shifts are those of a plan that is not refused
+pub record Sized (n t : ℕ) (shifts : List ℕ) : Type 0 where
+  pub n-min : 2 ≤ n
+  pub n-max : n ≤ 32
+  pub t-min : 1 ≤ t
+  pub t-max : t ≤ 2048
+  pub places-max : n * t ≤ 32768
+  pub long : n ≤ length shifts
+  pub below : (j : ℕ) → j < n → getD shifts j 0 < t
+
+-- the code of a place: section × 2,048 + offset, which fits 16 bits and takes apart with no division by t
+unfoldable pub codeOf : ℕ → ℕ → ℕ
+codeOf t c = c / t * 2048 + c % t
+
+-- the places of E on row r
+unfoldable pub onRow : Layout → List ℕ → ℕ → List ℕ
+onRow L E r = keep (λ c. meets L c r) E
+
+-- the tables picture erasures E and a block u (0 at the erasures)
+pub record Picture (L : Layout) (E : List ℕ) (u : ℕ → ℕ) (sum left code : List ℕ) : Type 0 where
+  pub sum-long : length sum ≡ 2 * L .t
+  pub left-long : length left ≡ 2 * L .t
+  pub code-long : length code ≡ 2 * L .t
+  pub erased : Erased L E
+  pub byte : (c : ℕ) → u c < 256
+  pub blank : (c : ℕ) → c ∈ E → u c ≡ 0
+  pub sums : (r : ℕ) → r < 2 * L .t → getD sum r 0 ≡ syndrome L u r
+  pub lefts : (r : ℕ) → r < 2 * L .t → getD left r 0 ≡ length (onRow L E r)
+  pub codes : (r : ℕ) → r < 2 * L .t → getD code r 0 ≡ xorOver (onRow L E r) (codeOf (L .t))
+
+-- the tables picture some block with erasures: what the code needs to go by them
+pub record Pictured (L : Layout) (sum left code : List ℕ) : Type 0 where
+  pub E : List ℕ
+  pub u : ℕ → ℕ
+  pub picture : Picture L E u sum left code
+
+-- From erasures E and block u to erasures F and block x, the k places and values in two lists being the ones settled:
+-- every codeword that agreed at the start agrees now.
+pub record Settles (L : Layout) (E : List ℕ) (u : ℕ → ℕ) (F : List ℕ) (x : ℕ → ℕ) (place value : List ℕ) (k : ℕ) : Type 0 where
+  pub fewer : (c : ℕ) → c ∈ F → c ∈ E
+  pub kept : (c : ℕ) → ¬ (c ∈ E) → x c ≡ u c
+  pub forced : (w : ℕ → ℕ) → ((r : ℕ) → r < 2 * L .t → syndrome L w r ≡ 0)
+      → ((c : ℕ) → c ∈ places L → ¬ (c ∈ E) → w c ≡ u c) → (c : ℕ) → c ∈ places L → ¬ (c ∈ F) → w c ≡ x c
+  pub listed : (c : ℕ) → c ∈ E → ¬ (c ∈ F) → (i : ℕ) × (i < k) × (getD place i 0 ≡ c)
+  pub settled : (i : ℕ) → i < k → (getD place i 0 ∈ E) × (¬ (getD place i 0 ∈ F)) × (getD value i 0 ≡ x (getD place i 0))
+
+-- no row has exactly one erasure left
+unfoldable pub Stuck : Layout → List ℕ → Type 0
+Stuck L E = (r : ℕ) → r < 2 * L .t → length (onRow L E r) ≢ 1

@@ -1,0 +1,39 @@
+-- The layout of a plan's numbers within the sizes: it is valid, its places are all below n × t, and its parts.
+use mathlib.Core.Path.{_≡_, refl, sym}
+use mathlib.Core.List.{List}
+use Prim.Native.Nat.{ℕ, _*_, _<_}
+use Rattle.math.specs.Members.{_∈_, upTo}
+use Rattle.math.specs.MembersLaws.{upTo-∈, ∈-upTo, rising-upTo}
+use Rattle.plan.specs.Layout.{Layout, Valid, layout}
+use Rattle.code.specs.Places.{places}
+use Rattle.code.specs.Laws.MarksLaws.{places-all}
+use Rattle.tables.specs.Picture.{Sized}
+
+pub layout-n : (n t : ℕ) (shifts : List ℕ) → layout n t shifts .n ≡ n
+unfolding layout
+layout-n n t shifts = refl
+
+pub layout-t : (n t : ℕ) (shifts : List ℕ) → layout n t shifts .t ≡ t
+unfolding layout
+layout-t n t shifts = refl
+
+module _ {n t : ℕ} {shifts : List ℕ} (s : Sized n t shifts) where
+  pub sized-valid : Valid (layout n t shifts)
+  unfolding layout
+  sized-valid =
+      record {
+        positive = s .t-min;
+        rising = rising-upTo n;
+        inside = λ j m. upTo-∈ n m;
+        below = λ j m. s .below j (upTo-∈ n m);
+      }
+
+  pub sized-places : places (layout n t shifts) ≡ upTo (n * t)
+  unfolding layout
+  sized-places = places-all (layout n t shifts) refl (s .t-min)
+
+  pub ∈-sized : {c : ℕ} → c < n * t → c ∈ places (layout n t shifts)
+  ∈-sized h = rw sized-places (∈-upTo h)
+
+  pub sized-∈ : {c : ℕ} → c ∈ places (layout n t shifts) → c < n * t
+  sized-∈ m = upTo-∈ (n * t) (rw sized-places at m)
