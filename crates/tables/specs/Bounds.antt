@@ -1,11 +1,10 @@
 -- What the numbers of a picture are bounded by, so that the tables' entries fit: no row has more erasures than there are places,
 -- and a row of an erasure has at least one.
-use mathlib.Core.Path.{_≡_, sym, _∙_, ap, subst}
 use mathlib.Core.List.{List}
 use Prim.Native.Nat.{ℕ, _+_, _*_, _≤_, _<_}
 use native.Mathlib.Omega.{arith}
 use lib.ListN.{length, getD}
-use Rattle.math.specs.Members.{_∈_, keep, upTo}
+use Rattle.math.specs.Members.{_∈_, upTo}
 use Rattle.math.specs.MembersLaws.{∈-keep, ∈-upTo, length-upTo, length-keep-le, rising-distinct}
 use Rattle.math.specs.Pigeonhole.{∈-getD, distinct-length}
 use Rattle.plan.specs.Layout.{Layout, layout}

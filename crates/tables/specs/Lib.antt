@@ -7,5 +7,6 @@ pub mod Sizes
 pub mod SumLaws
 pub mod Filling
 pub mod Bounds
+pub mod Lowest
 pub mod Scan
 pub mod StuckLaws

@@ -1,11 +1,11 @@
 -- How the tables change when a place is noted (it joins the erasures and its symbol becomes 0) and when one is settled (it leaves them and
 -- gets its symbol). Main results: syndrome-change, length-onRow-add and -without, xor-onRow-add and -without, and from them
 -- picture-add and picture-remove; Touched says what stores at the two rows of a place do to a table.
-use mathlib.Core.Path.{_≡_, refl, sym, _∙_, ap, ap₂, subst}
-use mathlib.Core.Logic.{_≢_, _⊎_, inl, inr, ⊎-elim, by-cases}
-use mathlib.Core.Bool.{Bool, true, false, not, _&&_, and-comm, true≢false}
+use mathlib.Core.Path.{_≡_, refl, sym, _∙_, ap, subst}
+use mathlib.Core.Logic.{inl, inr, ⊎-elim, by-cases}
+use mathlib.Core.Bool.{Bool, not, _&&_, and-comm, true≢false}
 use mathlib.Core.List.{List, [], _∷_, _++_, List·Memᴰ·append-cases, List·Memᴰ·eq-of-singleton, Memᴰ·cast, List·Memᴰ·not-nil as not-nil}
-use Prim.Native.Nat.{ℕ, _+_, _-_, _*_, _≤_, _<_}
+use Prim.Native.Nat.{ℕ, _+_, _-_, _*_, _<_}
 use native.Mathlib.Nat.{add-zero, sub-zero}
 use native.Mathlib.Decide.{ℕ-discrete}
 use native.Mathlib.Omega.{arith}
@@ -13,7 +13,7 @@ use borrow.Author.Tests.{eq-eqb, ne-eqb}
 use lib.Dec.{eqb}
 use lib.ListN.{length, getD, set, length-append, length-set}
 use lib.Seq.{getD-set-same, getD-set-other}
-use Rattle.math.specs.Members.{_∈_, keep, without, Rising, rising-none, rising-more, Distinct}
+use Rattle.math.specs.Members.{_∈_, keep, without, rising-none, rising-more, Distinct}
 use Rattle.math.specs.MembersLaws.{by-test, ∈-keep, keep-∈, keep-append, keep-ext, keep-keep, distinct-keep, without-∈, without-absent, rising-without, rising-append, rising-distinct, length-without}
 use Rattle.math.specs.Xor.{_⊕_, xor, ⊕-zero, zero-⊕, ⊕-self}
 use Rattle.math.specs.Sums.{xorOver, only}
@@ -24,7 +24,6 @@ use Rattle.code.specs.Codewords.{syndrome}
 use Rattle.code.specs.Checks.{update}
 use Rattle.code.specs.Laws.Basics.{distinct-places, top≢bottom, meets-row, meets-true, true-meets, syndrome-ext, syndrome-add}
 use Rattle.code.specs.Laws.Settle.{update-same, update-other}
-use Rattle.code.specs.Laws.Forest.{Erased}
 use Rattle.tables.specs.Picture.{codeOf, onRow, Picture}
 
 -- ---- a symbol changes

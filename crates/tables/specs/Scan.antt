@@ -1,37 +1,37 @@
--- The scan of the marks: the tables picture the erasures below the place where the scan stands.
--- Main results: scan-start, scan-skip (places that are not noted), scan-note, scan-end; `fromPlace` selects the erasures from a place on.
+-- The scan of the marks, a byte at a time: the tables picture the erasures below the place that the scan has come to.
+-- Main results: seen-start, seen-skip (places that are not noted), seen-note, seen-end; `fromPlace` selects the erasures from a place on.
 use mathlib.Core.Path.{_≡_, refl, sym, _∙_, ap, subst, fun-ext}
-use mathlib.Core.Logic.{_≢_, ⊎-elim, inl, inr, by-cases}
-use mathlib.Core.Bool.{Bool, true, false, true≢false}
+use mathlib.Core.Logic.{_≢_, ⊎-elim, by-cases}
 use mathlib.Core.List.{List, [], _∷_, _++_, List·Memᴰ·append-cases, List·Memᴰ·eq-of-singleton, Memᴰ·cast, Memᴰ·append-left, Memᴰ·append-right}
 use mathlib.Core.List.{List·Memᴰ·head as here, List·Memᴰ·not-nil as not-nil}
-use Prim.Native.Nat.{ℕ, _+_, _-_, _*_, _/_, _%_, _^_, _≤_, _<_}
-use native.Mathlib.Nat.{zero-div, mod-lt}
+use Prim.Native.Nat.{ℕ, _+_, _-_, _*_, _/_, _^_, _≤_, _<_}
+use native.Mathlib.Nat.{mod-lt}
 use native.Mathlib.Decide.{ℕ-discrete, decLt}
 use native.Mathlib.Omega.{arith}
-use borrow.Author.Tests.{lt-ltb, le-ltb, ltb-true, ltb-false, le-leb, leb-true}
-use lib.Dec.{eqb, leb, ltb}
+use borrow.Author.Tests.{lt-ltb, le-ltb, ltb-true, le-leb, leb-true}
+use lib.Dec.{leb, ltb}
 use lib.ListN.{length, getD, set, replicate, length-replicate, getD-replicate}
 use lib.Seq.{getD-set-other}
+use lib.Count.{trailingZeros}
+use lib.Pow.{shr-le, shr-shr}
 use Rattle.math.specs.Members.{_∈_, isIn, keep, Rising, rising-none, rising-more}
-use Rattle.math.specs.MembersLaws.{by-test, ∈-keep, keep-∈, keep-all, keep-none, keep-ext, rising-keep, rising-append, rising-ext, decIn}
+use Rattle.math.specs.MembersLaws.{∈-keep, keep-∈, keep-all, keep-none, keep-ext, rising-keep, rising-append, rising-ext, decIn}
 use Rattle.math.specs.Xor.{_⊕_}
 use Rattle.math.specs.Sums.{xorOver}
 use Rattle.plan.specs.Layout.{Layout, layout, top, bottom, bottomRow}
-use Rattle.code.specs.Places.{places, meets}
-use Rattle.code.specs.Codewords.{syndrome, blank, bitOf}
+use Rattle.code.specs.Places.{places}
+use Rattle.code.specs.Codewords.{blank, bitOf}
 use Rattle.code.specs.Checks.{update}
-use Rattle.code.specs.Marks.{mark, erasures}
-use Rattle.code.specs.Laws.Basics.{syndrome-ext}
-use Rattle.code.specs.Laws.Forest.{Erased}
+use Rattle.code.specs.Marks.{mark, erasures, NoSpare}
 use Rattle.code.specs.Laws.Settle.{update-same, update-other, blank-in, blank-out}
-use Rattle.code.specs.Laws.MarksLaws.{in-erasures, rising-erasures}
+use Rattle.code.specs.Laws.MarksLaws.{in-erasures, rising-erasures, mark-at}
 use Rattle.tables.specs.Picture.{Sized, Picture, codeOf, onRow}
 use Rattle.tables.specs.Spots.{Stands, stands-top, stands-bottom, stands-code, stands-inside}
 use Rattle.tables.specs.Sizes.{layout-t, sized-valid, sized-∈, ∈-sized}
 use Rattle.tables.specs.SumLaws.{Syndromes}
 use Rattle.tables.specs.PictureLaws.{picture-add}
 use Rattle.tables.specs.Bounds.{left-room}
+use Rattle.tables.specs.Lowest.{zeros-below, first-one, bit-shifted, bit-beyond}
 
 -- the erasures from place a on
 unfoldable pub fromPlace : ℕ → List ℕ → List ℕ
@@ -100,16 +100,22 @@ pub record Lent (n t : ℕ) (shifts block marks : List ℕ) : Type 0 where
   pub sized : Sized n t shifts
   pub block-long : length block ≡ n * t
   pub marks-long : length marks ≡ (n * t + 7) / 8
+  pub no-spare : NoSpare (layout n t shifts) marks
 
 -- the erasures that are noted: the marked places from a on
 unfoldable pub toNote : ℕ → ℕ → List ℕ → List ℕ → ℕ → List ℕ
 toNote n t shifts marks a = fromPlace a (erasures (layout n t shifts) marks)
 
--- the tables picture the erasures below place c, where the scan stands
-pub record Scan (n t : ℕ) (shifts block marks : List ℕ) (a c j k : ℕ) (sum left code : List ℕ) : Type 0 where
-  pub stands : Stands t c j k
-  pub near : c ≤ n * t + 7
+-- the tables picture the erasures below place c
+pub record Seen (n t : ℕ) (shifts block marks : List ℕ) (a c : ℕ) (sum left code : List ℕ) : Type 0 where
   pub picture : Picture (layout n t shifts) (below c (toNote n t shifts marks a)) (blank (below c (toNote n t shifts marks a)) (λ d. getD block d 0)) sum left code
+
+-- c is a marked place, and the next that the scan comes to
+pub record Next (n t : ℕ) (shifts block marks : List ℕ) (a c : ℕ) (sum left code : List ℕ) : Type 0 where
+  pub lent : Lent n t shifts block marks
+  pub seen : Seen n t shifts block marks a c sum left code
+  pub inside : c < n * t
+  pub marked : mark marks c ≡ 1
 
 -- what noting the place at section j and offset k needs; p is the section's shift
 pub record Ready (t p j k : ℕ) (sum left code : List ℕ) : Type 0 where
@@ -224,155 +230,190 @@ rising-noted : (n t : ℕ) (shifts marks : List ℕ) (a : ℕ) → Rising (toNot
 unfolding toNote fromPlace
 rising-noted n t shifts marks a = rising-keep (λ c. leb a c) (rising-erasures (layout n t shifts) marks)
 
--- the mark of a place as it is read
-pub mark-read : (m : List ℕ) (c : ℕ) → mark m c ≡ getD m (c / 8) 0 / 2 ^ (c % 8) % 2
-unfolding mark bitOf
-mark-read m c = refl
-
-pub mark-none : (m : List ℕ) (c : ℕ) → getD m (c / 8) 0 ≡ 0 → mark m c ≡ 0
-mark-none m c e = mark-read m c ∙ ap (λ i. i / 2 ^ (c % 8) % 2) e ∙ ap (λ i. i % 2) (zero-div (2 ^ (c % 8)))
-
-pub mark-one : (m : List ℕ) (c : ℕ) → (getD m (c / 8) 0 / 2 ^ (c % 8) % 2 ≡ 0 → ⊥) → mark m c ≡ 1
-mark-one m c h = mark-read m c ∙ omega arith
-
-pub later-one : {c c' : ℕ} → c' ≡ c + 1 → c < c'
-later-one e = omega arith
-
-pub later-eight : {c c' : ℕ} → c' ≡ c + 8 → c < c'
-later-eight e = omega arith
-
-pub scan-long : {n t : ℕ} {shifts block marks : List ℕ} {a c j k : ℕ} {sum left code : List ℕ} → Scan n t shifts block marks a c j k sum left code
+pub seen-long : {n t : ℕ} {shifts block marks : List ℕ} {a c : ℕ} {sum left code : List ℕ} → Seen n t shifts block marks a c sum left code
     → (length sum ≡ 2 * t) × (length left ≡ 2 * t) × (length code ≡ 2 * t)
 unfolding layout
-scan-long S = (S .picture .sum-long, S .picture .left-long, S .picture .code-long)
+seen-long S = (S .picture .sum-long, S .picture .left-long, S .picture .code-long)
 
-module _ {n t : ℕ} {shifts block marks : List ℕ} (lent : Lent n t shifts block marks) (a : ℕ) where
-  pub scan-start : {c j k : ℕ} {sum left code : List ℕ} → ((d : ℕ) → getD block d 0 < 256) → Syndromes n t shifts block sum
-      → left ≡ replicate (2 * t) 0 → code ≡ replicate (2 * t) 0 → Stands t c j k → c ≡ 0 → Scan n t shifts block marks a c j k sum left code
-  unfolding blank isIn
-  scan-start {c} {sum = sum} {left = left} {code = code} b S l k st e =
-      let E : List ℕ = toNote n t shifts marks a in
-      let f : below c E ≡ [] = rw e (below-none E) in
+pub seen-at : {n t : ℕ} {shifts block marks : List ℕ} {a c d : ℕ} {sum left code : List ℕ} → c ≡ d → Seen n t shifts block marks a c sum left code
+    → Seen n t shifts block marks a d sum left code
+seen-at {n} {t} {shifts} {block} {marks} {a} {sum = sum} {left = left} {code = code} e S = subst (λ z. Seen n t shifts block marks a z sum left code) e S
+
+pub next-at : {n t : ℕ} {shifts block marks : List ℕ} {a c d : ℕ} {sum left code : List ℕ} → c ≡ d → Next n t shifts block marks a c sum left code
+    → Next n t shifts block marks a d sum left code
+next-at {n} {t} {shifts} {block} {marks} {a} {sum = sum} {left = left} {code = code} e N = subst (λ z. Next n t shifts block marks a z sum left code) e N
+
+pub seen-start : {n t : ℕ} {shifts block : List ℕ} (marks : List ℕ) (a : ℕ) {sum left code : List ℕ} → ((d : ℕ) → getD block d 0 < 256)
+    → Syndromes n t shifts block sum → left ≡ replicate (2 * t) 0 → code ≡ replicate (2 * t) 0 → Seen n t shifts block marks a 0 sum left code
+unfolding blank isIn
+seen-start {n} {t} {shifts} {block} marks a {sum} {left} {code} b S l k =
+    record {
+      picture = subst (λ F. Picture (layout n t shifts) F (blank F (λ d. getD block d 0)) sum left code)
+          (sym (below-none (toNote n t shifts marks a))) (picture-none b S l k);
+    }
+
+-- from c to c' no place is noted
+pub seen-skip : {n t : ℕ} {shifts block marks : List ℕ} {a c : ℕ} {sum left code : List ℕ} (c' : ℕ) → Seen n t shifts block marks a c sum left code
+    → c ≤ c' → ((d : ℕ) → c ≤ d → d < c' → mark marks d ≡ 1 → a ≤ d → ⊥) → Seen n t shifts block marks a c' sum left code
+seen-skip {n} {t} {shifts} {block} {marks} {a} {c} {sum} {left} {code} c' S g h =
+    let E : List ℕ = toNote n t shifts marks a in
+    let f : below c' E ≡ below c E = below-skip c c' E g (λ d x y i. let o = noted-∈ n t shifts marks a i in h d x y (o .1) (o .2)) in
+    record { picture = subst (λ F. Picture (layout n t shifts) F (blank F (λ d. getD block d 0)) sum left code) (sym f) (S .picture) }
+
+module _ {n t : ℕ} {shifts block marks : List ℕ} {a c j k : ℕ} {sum left code : List ℕ} (N : Next n t shifts block marks a c sum left code)
+    (st : Stands t c j k) where
+  next-section : j < n
+  next-section = stands-inside st n (N .inside)
+
+  -- what is read is within the slices
+  pub next-symbol : c < length block
+  next-symbol = omega (arith, N .lent .block-long, N .inside)
+
+  pub next-shift : (j < length shifts) × (j < 32)
+  next-shift = omega (arith, next-section, N .lent .sized .long, N .lent .sized .n-max)
+
+  pub next-ready : Ready t (getD shifts j 0) j k sum left code
+  unfolding layout
+  next-ready =
       record {
-        stands = st;
-        near = omega arith;
-        picture = subst (λ F. Picture (layout n t shifts) F (blank F (λ d. getD block d 0)) sum left code) (sym f) (picture-none b S l k);
+        within = st .within;
+        shift = N .lent .sized .below j next-section;
+        t-max = N .lent .sized .t-max;
+        section = next-shift .1;
+        sum-long = N .seen .picture .sum-long;
+        left-long = N .seen .picture .left-long;
+        code-long = N .seen .picture .code-long;
+        room = λ r h. left-room (N .lent .sized) (N .seen .picture) h;
       }
 
-  module _ {c j k : ℕ} {sum left code : List ℕ} (S : Scan n t shifts block marks a c j k sum left code) (inside : c < n * t) where
-    -- from c to c' no place is noted
-    pub scan-skip : {c' j' k' : ℕ} → Stands t c' j' k' → c ≤ c' → c' ≤ c + 8 → ((d : ℕ) → c ≤ d → d < c' → mark marks d ≡ 1 → a ≤ d → ⊥)
-        → Scan n t shifts block marks a c' j' k' sum left code
-    scan-skip {c'} st g m h =
-        let E : List ℕ = toNote n t shifts marks a in
-        let f : below c' E ≡ below c E = below-skip c c' E g (λ d x y i. let o = noted-∈ n t shifts marks a i in h d x y (o .1) (o .2)) in
+  -- it is below a
+  pub next-early : c < a → Seen n t shifts block marks a (c + 1) sum left code
+  next-early h = seen-skip (c + 1) (N .seen) (omega arith) (λ d x y m l. omega arith)
+
+  -- it is noted
+  pub next-noted : {sum' left' code' : List ℕ} → a ≤ c → Noted t (getD shifts j 0) (getD block c 0) j k sum left code sum' left' code'
+      → Seen n t shifts block marks a (c + 1) sum' left' code'
+  next-noted {sum'} {left'} {code'} h D =
+      record { picture = subst (λ F. Picture L F (blank F u) sum' left' code') (sym f) (picture-ext (blank-more (below c E) u c) more) }
+    where
+      L : Layout
+      L = layout n t shifts
+
+      E : List ℕ
+      E = toNote n t shifts marks a
+
+      u : ℕ → ℕ
+      u d = getD block d 0
+
+      inE : c ∈ E
+      inE = ∈-noted n t shifts marks a (∈-sized (N .lent .sized) (N .inside)) (N .marked) h
+
+      f : below (c + 1) E ≡ below c E ++ (c ∷ [])
+      f = below-note c (rising-noted n t shifts marks a) inE
+
+      v : blank (below c E) u c ≡ getD block c 0
+      v = blank-out u (λ i. let o = below-in c E i in omega (arith, o .1))
+
+      T : top L c ≡ k
+      T = stands-top st n shifts
+
+      B : bottom L c ≡ bottomRow t (getD shifts j 0) k
+      B = stands-bottom st n shifts
+
+      K : codeOf (L .t) c ≡ j * 2048 + k
+      K = ap (λ z. codeOf z c) (layout-t n t shifts) ∙ stands-code st
+
+      more : Picture L (below c E ++ (c ∷ [])) (update (blank (below c E) u) c 0) sum' left' code'
+      more =
+          picture-add L (sized-valid (N .lent .sized)) c (N .seen .picture) (D .sum₁) sum' (D .left₁) left' (D .code₁) code'
+          (∈-sized (N .lent .sized) (N .inside)) (λ d i. below-in c E i .1)
+          (rw (T, v) (D .sum-top)) (rw (B, v) (D .sum-bottom)) (rw T (D .left-top)) (rw B (D .left-bottom))
+          (rw (T, K) (D .code-top)) (rw (B, K) (D .code-bottom))
+
+-- with no spare bit set, a marked place is a place
+marked-inside : {n t : ℕ} {shifts block marks : List ℕ} → Lent n t shifts block marks → (c : ℕ) → c < 8 * length marks → mark marks c ≡ 1 → c < n * t
+unfolding NoSpare layout
+marked-inside {n} {t} lent c h m =
+    by-cases (decLt c (n * t)) (λ l. l) (λ l. absurd (omega (arith, sym (lent .no-spare c (omega arith) h) ∙ m)))
+
+-- byte i of the marks, of which the bits from p on are left, as the number `rest`
+module _ {n t : ℕ} {shifts block marks : List ℕ} (lent : Lent n t shifts block marks) (i : ℕ) (small : getD marks i 0 < 256) (p : ℕ) {rest : ℕ}
+    (left-over : rest ≡ getD marks i 0 / 2 ^ p) where
+  bit-of : (b : ℕ) → bitOf b rest ≡ bitOf (p + b) (getD marks i 0)
+  bit-of b = ap (bitOf b) left-over ∙ bit-shifted p b (getD marks i 0)
+
+  rest-small : rest < 256
+  rest-small = let h = shr-le (getD marks i 0) p in omega arith
+
+  -- none is left
+  pub byte-done : {a : ℕ} {sum left code : List ℕ} → rest ≡ 0 → p ≤ 8 → Seen n t shifts block marks a (8 * i + p) sum left code
+      → Seen n t shifts block marks a (8 * i + 8) sum left code
+  byte-done z h S =
+      seen-skip (8 * i + 8) S (omega arith)
+      (λ d x y m l. no-mark d (d - (8 * i + p)) (omega arith) (omega arith) m)
+    where
+      no-mark : (d b : ℕ) → d ≡ 8 * i + (p + b) → p + b < 8 → mark marks d ≡ 1 → ⊥
+      no-mark d b e g m =
+          let q : mark marks d ≡ 0 = ap (mark marks) e ∙ mark-at marks i (p + b) g ∙ sym (bit-of b) ∙ ap (bitOf b) z ∙ bit-beyond 0 b 0 (omega arith) (omega arith) in
+          omega (arith, sym q ∙ m)
+
+  module _ (some : rest ≢ 0) where
+    -- the lowest mark that is left
+    one-here : bitOf (p + trailingZeros 8 rest) (getD marks i 0) ≡ 1
+    one-here = sym (bit-of (trailingZeros 8 rest)) ∙ first-one 8 rest rest-small some
+
+    pub byte-bit : p + trailingZeros 8 rest < 8
+    byte-bit =
+        by-cases (decLt (p + trailingZeros 8 rest) 8) (λ h. h)
+        (λ h. absurd (omega (arith, sym one-here ∙ bit-beyond 8 (p + trailingZeros 8 rest) (getD marks i 0) small (omega arith))))
+
+    pub byte-next : {a : ℕ} {sum left code : List ℕ} → i < length marks
+        → Seen n t shifts block marks a (8 * i + p) sum left code → Next n t shifts block marks a (8 * i + (p + trailingZeros 8 rest)) sum left code
+    byte-next h S =
         record {
-          stands = st;
-          near = omega arith;
-          picture = subst (λ F. Picture (layout n t shifts) F (blank F (λ d. getD block d 0)) sum left code) (sym f) (S .picture);
-        }
-
-    -- c is not marked, or below a
-    pub scan-pass : {c' j' k' : ℕ} → Stands t c' j' k' → c' ≡ c + 1 → (mark marks c ≡ 1 → a ≤ c → ⊥) → Scan n t shifts block marks a c' j' k' sum left code
-    scan-pass {c'} st e h =
-        scan-skip st (omega arith) (omega arith)
-        (λ d x y m l. let q : d ≡ c = omega arith in h (subst (λ z. mark marks z ≡ 1) q m) (omega arith))
-
-    -- c begins a byte of marks that is 0
-    pub scan-byte : {c' j' k' : ℕ} → Stands t c' j' k' → c' ≡ c + 8 → c % 8 ≡ 0 → getD marks (c / 8) 0 ≡ 0 → Scan n t shifts block marks a c' j' k' sum left code
-    scan-byte {c'} st e z b =
-        scan-skip st (omega arith) (omega arith)
-        (λ d x y m l.
-        let q : d / 8 ≡ c / 8 = omega arith in
-        let o : getD marks (d / 8) 0 ≡ 0 = ap (λ i. getD marks i 0) q ∙ b in
-        omega (arith, sym (mark-none marks d o) ∙ m))
-
-    -- c is below a
-    pub scan-early : {c' j' k' : ℕ} → Stands t c' j' k' → c' ≡ c + 1 → c < a → Scan n t shifts block marks a c' j' k' sum left code
-    scan-early st e h = scan-pass st e (λ m l. omega arith)
-
-    pub scan-unmarked : {c' j' k' : ℕ} → Stands t c' j' k' → c' ≡ c + 1 → mark marks c ≡ 0 → Scan n t shifts block marks a c' j' k' sum left code
-    scan-unmarked st e z = scan-pass st e (λ m l. omega (arith, sym z ∙ m))
-
-    scan-section : j < n
-    scan-section = stands-inside (S .stands) n inside
-
-    -- what a turn reads is within the slices
-    pub scan-mark : c / 8 < length marks
-    scan-mark = omega (arith, lent .marks-long)
-
-    pub scan-symbol : c < length block
-    scan-symbol = omega (arith, lent .block-long)
-
-    pub scan-shift : (j < length shifts) × (j < 32)
-    scan-shift = omega (arith, scan-section, lent .sized .long, lent .sized .n-max)
-
-    -- the walk may go on
-    pub scan-go : Stands t c j k × (c < 32768)
-    scan-go = (S .stands, omega (arith, lent .sized .places-max))
-
-    pub scan-ready : Ready t (getD shifts j 0) j k sum left code
-    unfolding layout
-    scan-ready =
-        record {
-          within = S .stands .within;
-          shift = lent .sized .below j scan-section;
-          t-max = lent .sized .t-max;
-          section = scan-shift .1;
-          sum-long = S .picture .sum-long;
-          left-long = S .picture .left-long;
-          code-long = S .picture .code-long;
-          room = λ r h. left-room (lent .sized) (S .picture) h;
-        }
-
-    pub scan-note : {c' j' k' x : ℕ} {sum' left' code' : List ℕ} → Stands t c' j' k' → c' ≡ c + 1 → mark marks c ≡ 1 → a ≤ c → x ≡ getD block c 0
-        → Noted t (getD shifts j 0) x j k sum left code sum' left' code' → Scan n t shifts block marks a c' j' k' sum' left' code'
-    scan-note {c'} {x = x} {sum' = sum'} {left' = left'} {code' = code'} st e m h ex N =
-        record {
-          stands = st;
-          near = omega arith;
-          picture = subst (λ F. Picture L F (blank F u) sum' left' code') (sym f) (picture-ext (blank-more (below c E) u c) more);
+          lent = lent;
+          seen = seen-skip (8 * i + (p + trailingZeros 8 rest)) S (omega arith) (λ d x y m l. no-mark d (d - (8 * i + p)) (omega arith) (omega arith) m);
+          inside = inside;
+          marked = marked;
         }
       where
-        L : Layout
-        L = layout n t shifts
+        no-mark : (d b : ℕ) → d ≡ 8 * i + (p + b) → b < trailingZeros 8 rest → mark marks d ≡ 1 → ⊥
+        no-mark d b e g m =
+            let l : p + b < 8 = omega (arith, byte-bit) in
+            let q : mark marks d ≡ 0 = ap (mark marks) e ∙ mark-at marks i (p + b) l ∙ sym (bit-of b) ∙ zeros-below 8 rest b g in
+            omega (arith, sym q ∙ m)
 
-        E : List ℕ
-        E = toNote n t shifts marks a
+        marked : mark marks (8 * i + (p + trailingZeros 8 rest)) ≡ 1
+        marked = mark-at marks i (p + trailingZeros 8 rest) byte-bit ∙ one-here
 
-        u : ℕ → ℕ
-        u d = getD block d 0
+        inside : 8 * i + (p + trailingZeros 8 rest) < n * t
+        inside = marked-inside lent (8 * i + (p + trailingZeros 8 rest)) (omega (arith, byte-bit)) marked
 
-        inE : c ∈ E
-        inE = ∈-noted n t shifts marks a (∈-sized (lent .sized) inside) m h
+    pub byte-rest : rest / 2 ^ trailingZeros 8 rest / 2 ^ 1 ≡ getD marks i 0 / 2 ^ (p + trailingZeros 8 rest + 1)
+    byte-rest =
+        ap (λ y. y / 2 ^ trailingZeros 8 rest / 2 ^ 1) left-over
+        ∙ ap (λ y. y / 2 ^ 1) (shr-shr (getD marks i 0) p (trailingZeros 8 rest)) ∙ shr-shr (getD marks i 0) (p + trailingZeros 8 rest) 1
 
-        f : below c' E ≡ below c E ++ (c ∷ [])
-        f = rw e (below-note c (rising-noted n t shifts marks a) inE)
+-- the walk from byte to byte
+pub byte-first : (x : ℕ) → x ≡ x / 2 ^ 0
+byte-first x = omega arith
 
-        v : blank (below c E) u c ≡ x
-        v = blank-out u (λ i. let o = below-in c E i in omega (arith, o .1)) ∙ sym ex
+pub byte-place : {n t : ℕ} {shifts block marks : List ℕ} → Lent n t shifts block marks → (i : ℕ) {c : ℕ} → c ≡ 8 * i → i < length marks → c < 32768
+byte-place lent i e h = omega (arith, lent .marks-long, lent .sized .places-max)
 
-        T : top L c ≡ k
-        T = stands-top (S .stands) n shifts
+pub byte-on : {c c' : ℕ} (i : ℕ) → c ≡ 8 * i → c' ≡ c + 8 → c' ≡ 8 * (i + 1)
+byte-on i e f = omega arith
 
-        B : bottom L c ≡ bottomRow t (getD shifts j 0) k
-        B = stands-bottom (S .stands) n shifts
+pub bytes-end : {n t : ℕ} {shifts block marks : List ℕ} → Lent n t shifts block marks → (i : ℕ) → length marks ≤ i → n * t ≤ 8 * i
+bytes-end lent i h = omega (arith, lent .marks-long)
 
-        K : codeOf (L .t) c ≡ j * 2048 + k
-        K = ap (λ z. codeOf z c) (layout-t n t shifts) ∙ stands-code (S .stands)
-
-        more : Picture L (below c E ++ (c ∷ [])) (update (blank (below c E) u) c 0) sum' left' code'
-        more =
-            picture-add L (sized-valid (lent .sized)) c (S .picture) (N .sum₁) sum' (N .left₁) left' (N .code₁) code'
-            (∈-sized (lent .sized) inside) (λ d i. below-in c E i .1)
-            (rw (T, v) (N .sum-top)) (rw (B, v) (N .sum-bottom)) (rw T (N .left-top)) (rw B (N .left-bottom))
-            (rw (T, K) (N .code-top)) (rw (B, K) (N .code-bottom))
-
-  pub scan-end : {c j k : ℕ} {sum left code : List ℕ} → Scan n t shifts block marks a c j k sum left code → n * t ≤ c
-      → Picture (layout n t shifts) (fromPlace a (erasures (layout n t shifts) marks))
-      (blank (fromPlace a (erasures (layout n t shifts) marks)) (λ d. getD block d 0)) sum left code
-  unfolding toNote
-  scan-end {c} {sum = sum} {left = left} {code = code} S h =
-      let E : List ℕ = toNote n t shifts marks a in
-      let f : below c E ≡ E = below-all c E (λ d m. omega (arith, sized-∈ (lent .sized) (noted-∈ n t shifts marks a m .0))) in
-      subst (λ F. Picture (layout n t shifts) F (blank F (λ d. getD block d 0)) sum left code) f (S .picture)
+-- the scan has passed the last byte
+pub seen-end : {n t : ℕ} {shifts block marks : List ℕ} {a c : ℕ} {sum left code : List ℕ} → Lent n t shifts block marks
+    → Seen n t shifts block marks a c sum left code → n * t ≤ c
+    → Picture (layout n t shifts) (fromPlace a (erasures (layout n t shifts) marks))
+    (blank (fromPlace a (erasures (layout n t shifts) marks)) (λ d. getD block d 0)) sum left code
+unfolding toNote
+seen-end {n} {t} {shifts} {block} {marks} {a} {c} {sum} {left} {code} lent S h =
+    let E : List ℕ = toNote n t shifts marks a in
+    let f : below c E ≡ E = below-all c E (λ d m. omega (arith, sized-∈ (lent .sized) (noted-∈ n t shifts marks a m .0))) in
+    subst (λ F. Picture (layout n t shifts) F (blank F (λ d. getD block d 0)) sum left code) f (S .picture)

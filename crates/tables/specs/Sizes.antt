@@ -1,10 +1,10 @@
 -- The layout of a plan's numbers within the sizes: it is valid, its places are all below n × t, and its parts.
-use mathlib.Core.Path.{_≡_, refl, sym}
+use mathlib.Core.Path.{_≡_, refl}
 use mathlib.Core.List.{List}
 use Prim.Native.Nat.{ℕ, _*_, _<_}
 use Rattle.math.specs.Members.{_∈_, upTo}
 use Rattle.math.specs.MembersLaws.{upTo-∈, ∈-upTo, rising-upTo}
-use Rattle.plan.specs.Layout.{Layout, Valid, layout}
+use Rattle.plan.specs.Layout.{Valid, layout}
 use Rattle.code.specs.Places.{places}
 use Rattle.code.specs.Laws.MarksLaws.{places-all}
 use Rattle.tables.specs.Picture.{Sized}

@@ -1,6 +1,6 @@
 -- A place with its section and offset, as a walk carries them.
 -- Main results: the steps of a walk, and the section, the rows and the code of a place where a walk stands.
-use mathlib.Core.Path.{_≡_, refl, sym, _∙_, ap, subst}
+use mathlib.Core.Path.{_≡_, sym}
 use mathlib.Core.List.{List}
 use Prim.Native.Nat.{ℕ, _+_, _-_, _*_, _/_, _%_, _≤_, _<_}
 use native.Mathlib.Nat.{mod-lt, add-mod-right, mod-eq-of-lt, div-lt-iff-lt-mul, mul-le-mul-left, mul-one, suc-mul}

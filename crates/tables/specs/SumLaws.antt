@@ -1,31 +1,31 @@
 -- The row sums section by section: what the exclusive or of slices gives, and that after all sections the table holds the syndromes.
 -- Main results: section-sum (a section meets a row in one place), the steps of the two loops (xored-more, summed-more) and their ends.
-use mathlib.Core.Path.{_≡_, refl, sym, _∙_, ap, ap₂, subst}
-use mathlib.Core.Logic.{_≢_, _⊎_, inl, inr, ⊎-elim, by-cases}
-use mathlib.Core.Bool.{Bool, true, false, cond, true≢false}
-use mathlib.Core.List.{List, [], _∷_, _++_}
-use Prim.Native.Nat.{ℕ, suc, _+_, _-_, _*_, _/_, _%_, _≤_, _<_}
+use mathlib.Core.Path.{_≡_, refl, sym, _∙_, ap, ap₂}
+use mathlib.Core.Logic.{inl, inr, ⊎-elim, by-cases}
+use mathlib.Core.Bool.{cond}
+use mathlib.Core.List.{List, _++_}
+use Prim.Native.Nat.{ℕ, _+_, _-_, _*_, _%_, _≤_, _<_}
 use native.Mathlib.Nat.{mod-lt, mod-eq-of-lt, add-mod-right, suc-mul, zero-mul, sub-zero, mul-le-mul-right}
 use native.Mathlib.Numerals.{add-one}
 use native.Mathlib.Decide.{ℕ-discrete, decLt}
 use native.Mathlib.Omega.{arith}
 use borrow.Author.Tests.{lt-ltb, le-ltb}
-use lib.Dec.{eqb, ltb}
-use lib.ListN.{length, getD, set, take, drop, replicate, length-set, length-append, length-take, length-drop, length-replicate, getD-replicate, List·getD-append, List·getD-eq-default}
+use lib.Dec.{ltb}
+use lib.ListN.{length, getD, set, take, drop, replicate, length-set, length-append, length-drop, length-replicate, getD-replicate, List·getD-append, List·getD-eq-default}
 use lib.Seq.{getD-set-same, getD-set-other, getD-take, getD-drop, getD-append-add, length-take-le}
 use Rattle.math.specs.Members.{_∈_, from, upTo}
 use Rattle.math.specs.MembersLaws.{by-test, ∈-from, from-∈, rising-from, rising-distinct, upTo-append}
-use Rattle.math.specs.Xor.{_⊕_, ⊕-zero, zero-⊕, ⊕-assoc}
+use Rattle.math.specs.Xor.{_⊕_, ⊕-zero}
 use Rattle.math.specs.Sums.{xorOver, only}
 use Rattle.math.specs.SumsLaws.{only-true, only-false, xorOver-append, xorOver-one}
 use Rattle.math.specs.Residues.{back-forth, forth-back}
-use Rattle.plan.specs.Layout.{Layout, layout, top, bottom, bottomRow}
-use Rattle.code.specs.Places.{places, Meets, meets}
+use Rattle.plan.specs.Layout.{layout, top, bottom, bottomRow}
+use Rattle.code.specs.Places.{Meets, meets}
 use Rattle.code.specs.Codewords.{syndrome}
-use Rattle.code.specs.Laws.Basics.{top-lt, bottom-ge, meets-true, true-meets}
+use Rattle.code.specs.Laws.Basics.{meets-true, true-meets}
 use Rattle.tables.specs.Picture.{Sized}
-use Rattle.tables.specs.Spots.{Stands, stands-top, stands-bottom, stands-offset}
-use Rattle.tables.specs.Sizes.{sized-valid, sized-places}
+use Rattle.tables.specs.Spots.{Stands, stands-top, stands-bottom}
+use Rattle.tables.specs.Sizes.{sized-places}
 
 -- ---- one slice into another
 
@@ -160,11 +160,14 @@ section-added t p section high low old sum₁ sum₂ new hp l eh el A B C =
         ap (λ z. getD z (r - t) 0) eh ∙ getD-take (t - p) (drop p section) (r - t) 0 (omega arith) ∙ getD-drop p section (r - t) 0
         ∙ ap (λ y. getD section y 0) (f ∙ sym (offset-bottom t p m ∙ g))
 
-    symbol-low : (r i : ℕ) → i ≡ r - (2 * t - p) → 2 * t - p ≤ r → r < 2 * t → getD low (r - (2 * t - p)) 0 ≡ getD section (offsetOn t p r) 0
-    symbol-low r i q m h =
+    offset-low : (r i : ℕ) → i ≡ r - (2 * t - p) → 2 * t - p ≤ r → r < 2 * t → offsetOn t p r ≡ i
+    offset-low r i q m h =
         let f : r - t + p ≡ i + t = omega arith in
-        let g : (r - t + p) % t ≡ i = ap (λ y. y % t) f ∙ add-mod-right i t ∙ mod-eq-of-lt {n = i} {m = t} (omega arith) in
-        ap₂ (λ z y. getD z y 0) el (sym q) ∙ getD-take p section i 0 (omega arith) ∙ ap (λ y. getD section y 0) (sym (offset-bottom t p {r = r} (omega arith) ∙ g))
+        offset-bottom t p {r = r} (omega arith) ∙ ap (λ y. y % t) f ∙ add-mod-right i t ∙ mod-eq-of-lt {n = i} {m = t} (omega arith)
+
+    symbol-low : (r i : ℕ) → i ≡ r - (2 * t - p) → 2 * t - p ≤ r → r < 2 * t → getD low i 0 ≡ getD section (offsetOn t p r) 0
+    symbol-low r i q m h =
+        ap (λ z. getD z i 0) el ∙ getD-take p section i 0 (omega arith) ∙ ap (λ y. getD section y 0) (sym (offset-low r i q m h))
 
     at-high : (r : ℕ) → t ≤ r → r < 2 * t - p → getD new r 0 ≡ getD old r 0 ⊕ getD section (offsetOn t p r) 0
     at-high r m k = C .before r k ∙ B .inside r m k ∙ ap₂ _⊕_ (A .after r m) (symbol-high r m k)

@@ -1,13 +1,14 @@
 // The scan of the marks: each marked place from `first` on is taken out of the sums and put in on its two rows.
 ghost use mathlib.Core.Path.{_≡_};
-ghost use Prim.Native.Nat.{_*_, _<_, _≤_};
+ghost use Prim.Native.Nat.{_+_, _*_, _≤_, _<_};
 ghost use lib.ListN.{length, getD, replicate};
 ghost use Rattle.plan.specs.Layout.{layout};
 ghost use Rattle.code.specs.Codewords.{blank};
 ghost use Rattle.code.specs.Marks.{erasures};
 ghost use Rattle.tables.specs.Picture.{Picture};
+ghost use Rattle.tables.specs.Spots.{Stands};
 ghost use Rattle.tables.specs.SumLaws.{Syndromes};
-ghost use Rattle.tables.specs.Scan.{Lent, Scan, Ready, Noted, fromPlace};
+ghost use Rattle.tables.specs.Scan.{Lent, Next, Noted, Ready, Seen, fromPlace};
 use crate::packed::pack;
 use crate::rows::add;
 use crate::rows::bottom;
@@ -50,8 +51,8 @@ fn note(t: usize, p: usize, x: u8, spot: Spot, sum: &mut [u8], left: &mut [u16],
     put_in(&mut left[..], &mut code[..], low, c);
 }
 
-// One turn of the scan: on by a byte of marks that is 0, or by one place, which is noted if it is marked and not below `first`.
-fn turn(
+// Bit `bit` of the byte of marks that begins at the spot is set: notes its place, if that is not below `first`.
+fn note_bit(
     n: usize,
     t: usize,
     shifts: &[u16],
@@ -59,41 +60,72 @@ fn turn(
     marks: &[u8],
     first: Place,
     spot: Spot,
+    bit: usize,
     sum: &mut [u8],
     left: &mut [u16],
     code: &mut [u16],
-) -> Spot
-    requires { ⌜ Lent n t (now shifts) (now block) (now marks) ⌝ }
-    requires { ⌜ Scan n t (now shifts) (now block) (now marks) (first .0) (spot .place .0) (spot .section) (spot .offset) (now sum) (now left) (now code) ⌝ }
-    requires { ⌜ spot .place .0 < n * t ⌝ }
-    ensures { λ r. ⌜ Scan n t (now (shifts .entry)) (now (block .entry)) (now (marks .entry)) (first .0) (r .place .0) (r .section) (r .offset) (now (sum .exit)) (now (left .exit)) (now (code .exit)) ⌝ }
-    ensures { λ r. ⌜ spot .place .0 < r .place .0 ⌝ }
+)
+    requires { ⌜ Stands t (spot .place .0) (spot .section) (spot .offset) × (bit ≤ 8) ⌝ }
+    requires { ⌜ Next n t (now shifts) (now block) (now marks) (first .0) (spot .place .0 + bit) (now sum) (now left) (now code) ⌝ }
+    ensures { λ _. ⌜ Seen n t (now (shifts .entry)) (now (block .entry)) (now (marks .entry)) (first .0) (spot .place .0 + bit + 1) (now (sum .exit)) (now (left .exit)) (now (code .exit)) ⌝ }
 {
-    let c = spot.place.0 as usize;
-    let byte = marks[c / 8];
-    if byte == 0 {
-        if c % 8 == 0 {
-            return spot.skip8(t);
-        }
-        return spot.next(t);
+    let here = spot.skip(t, bit);
+    if here.place.0 < first.0 {
+        return;
     }
-    if (byte >> (c % 8)) % 2 == 0 {
-        return spot.next(t);
-    }
-    if spot.place.0 < first.0 {
-        return spot.next(t);
-    }
-    let j = spot.section;
+    let c = here.place.0 as usize;
+    let j = here.section;
     note(
         t,
         shifts[j] as usize,
         block[c],
-        spot,
+        here,
         &mut sum[..],
         &mut left[..],
         &mut code[..],
     );
-    spot.next(t)
+}
+
+// Notes the marked places of byte i of the marks, which begins at the spot, lowest bit first.
+fn note_byte(
+    n: usize,
+    t: usize,
+    shifts: &[u16],
+    block: &[u8],
+    marks: &[u8],
+    first: Place,
+    i: usize,
+    spot: Spot,
+    sum: &mut [u8],
+    left: &mut [u16],
+    code: &mut [u16],
+)
+    requires { ⌜ Lent n t (now shifts) (now block) (now marks) ⌝ }
+    requires { ⌜ Stands t (spot .place .0) (spot .section) (spot .offset) × (spot .place .0 ≡ 8 * i) × (i < length (now marks)) ⌝ }
+    requires { ⌜ Seen n t (now shifts) (now block) (now marks) (first .0) (8 * i) (now sum) (now left) (now code) ⌝ }
+    ensures { λ _. ⌜ Seen n t (now (shifts .entry)) (now (block .entry)) (now (marks .entry)) (first .0) (8 * i + 8) (now (sum .exit)) (now (left .exit)) (now (code .exit)) ⌝ }
+{
+    let mut rest = marks[i];
+    let mut bit = 0;
+    while rest != 0 {
+        let zeros = u8::trailing_zeros(rest);
+        bit += zeros as usize;
+        note_bit(
+            n,
+            t,
+            shifts,
+            block,
+            marks,
+            first,
+            spot,
+            bit,
+            &mut sum[..],
+            &mut left[..],
+            &mut code[..],
+        );
+        rest = (rest >> zeros) >> 1;
+        bit += 1;
+    }
 }
 
 // Notes all marked places from `first` on, in tables that hold the block's sums and no erasure.
@@ -113,20 +145,23 @@ pub fn note_marks(
     requires { ⌜ (now left ≡ replicate (2 * t) 0) × (now code ≡ replicate (2 * t) 0) ⌝ }
     ensures { λ _. ⌜ Picture (layout n t (now (shifts .entry))) (fromPlace (first .0) (erasures (layout n t (now (shifts .entry))) (now (marks .entry)))) (blank (fromPlace (first .0) (erasures (layout n t (now (shifts .entry))) (now (marks .entry)))) (λ c. getD (now (block .entry)) c 0)) (now (sum .exit)) (now (left .exit)) (now (code .exit)) ⌝ }
 {
-    let places = n * t;
     let mut spot = Spot::start(t);
-    while (spot.place.0 as usize) < places {
-        spot = turn(
+    let mut i = 0;
+    while i < marks.len() {
+        note_byte(
             n,
             t,
             shifts,
             block,
             marks,
             first,
+            i,
             spot,
             &mut sum[..],
             &mut left[..],
             &mut code[..],
         );
+        spot = spot.skip8(t);
+        i += 1;
     }
 }

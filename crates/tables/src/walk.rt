@@ -1,6 +1,6 @@
 // A place with its section and offset, carried along every walk over the places: no division by t.
 ghost use mathlib.Core.Path.{_≡_};
-ghost use Prim.Native.Nat.{_+_, _*_, _≤_, _<_};
+ghost use Prim.Native.Nat.{_+_, _≤_, _<_};
 ghost use Rattle.tables.specs.Spots.{Stands};
 use plan::Place;
 
@@ -43,14 +43,14 @@ impl Spot {
         }
     }
 
-    // Eight places on.
-    pub fn skip8(self, t: usize) -> Spot
-        requires { ⌜ Stands t (self .place .0) (self .section) (self .offset) × (self .place .0 < 32768) ⌝ }
-        ensures { λ r. ⌜ Stands t (r .place .0) (r .section) (r .offset) × (r .place .0 ≡ self .place .0 + 8) ⌝ }
+    // k places on, k at most 8.
+    pub fn skip(self, t: usize, k: usize) -> Spot
+        requires { ⌜ Stands t (self .place .0) (self .section) (self .offset) × (self .place .0 < 32768) × (k ≤ 8) ⌝ }
+        ensures { λ r. ⌜ Stands t (r .place .0) (r .section) (r .offset) × (r .place .0 ≡ self .place .0 + k) ⌝ }
     {
-        let place = self.place.0 + 8;
+        let place = self.place.0 + k as u16;
         let mut section = self.section;
-        let mut offset = self.offset + 8;
+        let mut offset = self.offset + k;
         while t <= offset {
             offset -= t;
             section += 1;
@@ -60,5 +60,13 @@ impl Spot {
             section,
             offset,
         }
+    }
+
+    // Eight places on.
+    pub fn skip8(self, t: usize) -> Spot
+        requires { ⌜ Stands t (self .place .0) (self .section) (self .offset) × (self .place .0 < 32768) ⌝ }
+        ensures { λ r. ⌜ Stands t (r .place .0) (r .section) (r .offset) × (r .place .0 ≡ self .place .0 + 8) ⌝ }
+    {
+        self.skip(t, 8)
     }
 }

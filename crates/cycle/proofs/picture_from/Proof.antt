@@ -23,6 +23,7 @@ picture-requires c κs =
         sized = start .pre .0 .sized;
         block-long = sym (zeros-long (start .args .n * start .args .t) 32768 (start .pre .0 .sized .places-max));
         marks-long = start .pre .0 .marks-long;
+        no-spare = start .pre .0 .no-spare;
       },
       start .pre .1,
     )

@@ -1,37 +1,25 @@
+-- `tables::marks::note` meets its contract: two stores in each table, at the top row and then at the bottom row.
 use mathlib.Core.Path.{_∙_}
 use borrow.Author.Needs.{needs}
 use Rattle.tables.specs.Scan.{ready-top, ready-bottom, room-top, room-bottom, noted}
 use Rattle.tables.proofs.marks.note.Statement.{statement}
 use Rattle.tables.proofs.marks.note.Tie as tie
-use Rattle.tables.proofs.marks.note.Reads as reads
-use Rattle.tables.proofs.marks.note.Lts as lts
-use Rattle.tables.proofs.packed.pack.Reads as pack-reads
-use Rattle.tables.proofs.rows.add.Reads as add-reads
-use Rattle.tables.proofs.rows.bottom.Reads as bottom-reads
-use Rattle.tables.proofs.rows.put_in.Reads as put-in-reads
-use Rattle.tables.proofs.rows.top.Reads as top-reads
 
--- src/marks.rt:44:9
 pack-requires : tie.Need-pack-requires
 pack-requires c κs = search needs
 
--- src/marks.rt:45:9
 top-requires : tie.Need-top-requires
 top-requires c κs = search needs
 
--- src/marks.rt:46:9
 bottom-requires : tie.Need-bottom-requires
 bottom-requires c κs = search needs
 
--- src/marks.rt:47:5
 add-requires : tie.Need-add-requires
 add-requires c κs = search needs
 
--- src/marks.rt:48:5
 add-requires-2 : tie.Need-add-requires-2
 add-requires-2 c κs = ready-bottom (c .before .before .before .before .before .before .before .before .before .before .before .pre) (c .before .before .before .before .before .bottom .ensures) (c .before .before .before .add .kept .0 ∙ c .before .before .before .before .before .before .before .before .before .before .before .pre .sum-long)
 
--- src/marks.rt:49:5
 put-in-requires : tie.Need-put-in-requires
 put-in-requires c κs = (
   ready-top (c .before .before .before .before .before .before .before .before .before .before .before .before .before .before .before .before .pre) (c .before .before .before .before .before .before .before .before .before .before .before .top .ensures) (c .before .before .before .before .before .before .before .before .before .before .before .before .before .before .before .before .pre .left-long),
@@ -39,7 +27,6 @@ put-in-requires c κs = (
   room-top (c .before .before .before .before .before .before .before .before .before .before .before .before .before .before .before .before .pre) (c .before .before .before .before .before .before .before .before .before .before .before .top .ensures),
 )
 
--- src/marks.rt:50:5
 put-in-requires-2 : tie.Need-put-in-requires-2
 put-in-requires-2 c κs = (
   ready-bottom (c .before .before .before .before .before .before .before .before .before .before .before .before .before .before .before .before .before .before .before .before .before .before .before .pre) (c .before .before .before .before .before .before .before .before .before .before .before .before .before .before .before .before .before .bottom .ensures) (c .before .before .before .before .before .before .put-in .kept .0 ∙ c .before .before .before .before .before .before .before .before .before .before .before .before .before .before .before .before .before .before .before .before .before .before .before .pre .left-long),
@@ -47,19 +34,15 @@ put-in-requires-2 c κs = (
   room-bottom (c .before .before .before .before .before .before .before .before .before .before .before .before .before .before .before .before .before .before .before .before .before .before .before .pre) (c .before .before .before .before .before .before .before .before .before .before .before .before .before .before .before .before .before .before .top .ensures) (c .before .before .before .before .before .before .before .before .before .before .before .before .before .before .before .before .before .bottom .ensures) (c .before .before .before .before .before .before .put-in .ensures .0),
 )
 
--- src/marks.rt:40:1
 same-length : tie.Need-same-length
 same-length c = search needs
 
--- src/marks.rt:40:1
 same-length-2 : tie.Need-same-length-2
 same-length-2 c = search needs
 
--- src/marks.rt:40:1
 same-length-3 : tie.Need-same-length-3
 same-length-3 c = search needs
 
--- src/marks.rt:40:1
 returns : tie.Need-returns
 returns c =
     noted (c .before .before .before .before .before .before .before .before .before .before .before .before .before .before .before .before .before .before .before .before .before .before .before .top .ensures) (c .before .before .before .before .before .before .before .before .before .before .before .before .before .before .before .before .before .before .before .before .before .before .bottom .ensures) (c .before .before .before .before .before .before .before .before .before .before .before .before .before .before .before .before .before .before .before .before .before .before .before .before .pack .ensures) (c .before .before .before .before .before .before .before .before .before .before .before .before .before .before .before .before .before .before .before .before .add .ensures) (c .before .before .before .before .before .before .before .before .before .before .before .before .before .before .before .before .add2 .ensures)

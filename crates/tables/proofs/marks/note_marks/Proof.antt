@@ -1,67 +1,56 @@
-use mathlib.Core.Path.{_≡_, refl, sym, _∙_}
-use Prim.Native.Nat.{_*_, _-_}
+-- `tables::marks::note_marks` meets its contract. The invariant: the tables picture the erasures below byte i, where the spot stands.
+use mathlib.Core.Path.{_≡_, sym, _∙_}
+use Prim.Native.Nat.{_-_, _*_}
 use native.Mathlib.Omega.{arith}
-use borrow.Author.Needs.{needs}
-use Rattle.tables.specs.Scan.{Scan, scan-start, scan-end, scan-long}
+use lib.ListN.{length}
+use Rattle.tables.specs.Spots.{Stands}
+use Rattle.tables.specs.Scan.{Seen, byte-on, byte-place, bytes-end, seen-at, seen-end, seen-long, seen-start}
 use Rattle.tables.specs.SumLaws.{zeros-long}
 use Rattle.tables.proofs.marks.note_marks.Statement.{statement}
 use Rattle.tables.proofs.marks.note_marks.Tie as tie
-use Rattle.tables.proofs.marks.note_marks.Reads as reads
-use Rattle.tables.proofs.marks.note_marks.Lts as lts
-use Rattle.tables.proofs.marks.turn.Reads as turn-reads
-use Rattle.tables.proofs.walk.Spot.start.Reads as start-reads
 
 abbrev Inv-loop : tie.InvT-loop
-Inv-loop n t shifts block marks first sum₀ left₀ code₀ places spot₀ sum left code spot =
-    (places ≡ n * t) × Scan n t shifts block marks (first .0) (spot .place .0) (spot .section) (spot .offset) sum left code
+Inv-loop n t shifts block marks first sum₀ left₀ code₀ spot₀ i₀ sum left code spot i =
+    (spot .place .0 ≡ 8 * i) × Stands t (spot .place .0) (spot .section) (spot .offset) × Seen n t shifts block marks (first .0) (8 * i) sum left code
 
 abbrev μ-loop : tie.MeasureT-loop
-μ-loop n t shifts block marks first sum₀ left₀ code₀ places spot₀ sum left code spot = n * t - spot .place .0
+μ-loop n t shifts block marks first sum₀ left₀ code₀ spot₀ i₀ sum left code spot i = length marks - i
 
--- src/marks.rt:87:18
-mul-places : tie.Need-mul-places Inv-loop μ-loop
-mul-places c = omega (arith, c .before .before .before .before .before .before .pre .0 .sized .places-max)
-
--- src/marks.rt:88:9
 start-requires : tie.Need-start-requires Inv-loop μ-loop
 start-requires c κs = c .before .before .before .before .before .before .pre .0 .sized .t-min
 
--- src/marks.rt:89:5
 loop-holds : tie.Need-loop-holds Inv-loop μ-loop
 loop-holds c =
-    (refl, scan-start (c .before .before .before .before .before .before .before .pre .0) (c .before .before .before .before .before .before .before .args .first .0) (λ d. c .before .before .before .before .before .shared-slice-known2 .given d .fits) (c .before .before .before .before .before .before .before .pre .1 .0) (c .before .before .before .before .before .before .before .pre .1 .1 .0) (c .before .before .before .before .before .before .before .pre .1 .1 .1) (c .start .ensures .0) (c .start .ensures .1))
+    (c .start .ensures .1, c .start .ensures .0, seen-start (c .before .before .before .before .before .before .before .args .marks .now) (c .before .before .before .before .before .before .before .args .first .0) (λ d. c .before .before .before .before .before .shared-slice-known2 .given d .fits) (c .before .before .before .before .before .before .before .pre .1 .0) (c .before .before .before .before .before .before .before .pre .1 .1 .0) (c .before .before .before .before .before .before .before .pre .1 .1 .1))
 
--- src/marks.rt:89:12
-cast-if1 : tie.Need-cast-if1 Inv-loop μ-loop
-cast-if1 c = search needs
+note-byte-requires : tie.Need-note-byte-requires Inv-loop μ-loop
+note-byte-requires c κs =
+    (c .before .before .before .before .before .before .before .before .before .before .before .before .pre .0, ((c .before .before .before .before .loop .inv .1, c .before .before .before .before .loop .inv .0, c .before .before .before .loop-test .taken), c .before .before .before .before .loop .inv .2))
 
--- src/marks.rt:90:9
-turn-requires : tie.Need-turn-requires Inv-loop μ-loop
-turn-requires c κs = (c .before .before .before .before .before .before .before .before .before .before .before .before .before .pre .0, (c .before .before .before .before .before .loop .inv .1, omega (arith, c .before .before .before .before .before .loop .inv .0, c .before .before .before .if1 .taken)))
+skip8-requires : tie.Need-skip8-requires Inv-loop μ-loop
+skip8-requires c κs = (c .before .before .before .before .before .before .before .before .before .before .before .loop .inv .1, byte-place (c .before .before .before .before .before .before .before .before .before .before .before .before .before .before .before .before .before .before .before .pre .0) (c .before .before .before .before .before .before .before .before .before .before .before .loop .i) (c .before .before .before .before .before .before .before .before .before .before .before .loop .inv .0) (c .before .before .before .before .before .before .before .before .before .before .loop-test .taken))
 
--- src/marks.rt:89:5
+add-i : tie.Need-add-i Inv-loop μ-loop
+add-i c = omega (arith, c .before .before .before .before .before .before .before .before .before .before .before .loop-test .taken, c .before .before .before .before .before .before .before .before .before .before .before .before .before .before .before .before .before .before .before .before .good)
+
 loop-less : tie.Need-loop-less Inv-loop μ-loop
-loop-less c = omega (arith, c .before .before .before .before .before .before .before .before .before .before .before .before .loop .inv .0, c .before .before .before .before .before .before .before .before .before .before .if1 .taken, c .before .before .before .before .before .before .turn .ensures .1)
+loop-less c = omega (arith, c .before .before .before .before .before .before .before .before .before .before .before .loop-test .taken)
 
--- src/marks.rt:89:5
 loop-again : tie.Need-loop-again Inv-loop μ-loop
-loop-again c = (c .before .before .before .before .before .before .before .before .before .before .before .before .loop .inv .0, c .before .before .before .before .before .before .turn .ensures .0)
+loop-again c =
+    (byte-on (c .before .before .before .before .before .before .before .before .before .before .before .before .loop .i) (c .before .before .before .before .before .before .before .before .before .before .before .before .loop .inv .0) (c .skip8 .ensures .1), c .skip8 .ensures .0, seen-at (omega arith) (c .before .before .before .before .before .before .before .note-byte .ensures))
 
--- src/marks.rt:81:1
 same-length : tie.Need-same-length Inv-loop μ-loop
-same-length c = scan-long (c .before .before .loop .inv .1) .0 ∙ sym (c .before .before .before .before .before .before .before .before .before .before .pre .1 .0 .long)
+same-length c = seen-long (c .before .loop .inv .2) .0 ∙ sym (c .before .before .before .before .before .before .before .before .before .pre .1 .0 .long)
 
--- src/marks.rt:81:1
 same-length-2 : tie.Need-same-length-2 Inv-loop μ-loop
-same-length-2 c = scan-long (c .before .before .loop .inv .1) .1 ∙ sym (zeros-long (c .before .before .before .before .before .before .before .before .before .before .args .t) (c .before .before .before .before .before .before .before .before .before .before .args .left .now) (c .before .before .before .before .before .before .before .before .before .before .pre .1 .1 .0))
+same-length-2 c = seen-long (c .before .loop .inv .2) .1 ∙ sym (zeros-long (c .before .before .before .before .before .before .before .before .before .args .t) (c .before .before .before .before .before .before .before .before .before .args .left .now) (c .before .before .before .before .before .before .before .before .before .pre .1 .1 .0))
 
--- src/marks.rt:81:1
 same-length-3 : tie.Need-same-length-3 Inv-loop μ-loop
-same-length-3 c = scan-long (c .before .before .loop .inv .1) .2 ∙ sym (zeros-long (c .before .before .before .before .before .before .before .before .before .before .args .t) (c .before .before .before .before .before .before .before .before .before .before .args .code .now) (c .before .before .before .before .before .before .before .before .before .before .pre .1 .1 .1))
+same-length-3 c = seen-long (c .before .loop .inv .2) .2 ∙ sym (zeros-long (c .before .before .before .before .before .before .before .before .before .args .t) (c .before .before .before .before .before .before .before .before .before .args .code .now) (c .before .before .before .before .before .before .before .before .before .pre .1 .1 .1))
 
--- src/marks.rt:81:1
 returns : tie.Need-returns Inv-loop μ-loop
-returns c = scan-end (c .before .before .before .before .before .before .before .before .before .before .pre .0) (c .before .before .before .before .before .before .before .before .before .before .args .first .0) (c .before .before .loop .inv .1) (omega (arith, c .before .before .loop .inv .0, c .if1 .left))
+returns c = seen-end (c .before .before .before .before .before .before .before .before .before .pre .0) (c .before .loop .inv .2) (bytes-end (c .before .before .before .before .before .before .before .before .before .pre .0) (c .before .loop .i) (c .loop-test .left))
 
 pub note-marks-spec : {M : Type 1} → statement M
 note-marks-spec =
@@ -69,11 +58,11 @@ note-marks-spec =
     (tie.spec
     Inv-loop
     μ-loop
-    mul-places
     start-requires
     loop-holds
-    cast-if1
-    turn-requires
+    note-byte-requires
+    skip8-requires
+    add-i
     loop-less
     loop-again
     same-length

@@ -1,40 +1,31 @@
+-- `tables::rows::bottom` meets its contract: the bottom row with no division.
 use mathlib.Core.Path.{sym}
 use borrow.Author.Needs.{needs}
 use Rattle.tables.specs.Spots.{bottom-low, bottom-high}
 use Rattle.tables.proofs.rows.bottom.Statement.{statement}
 use Rattle.tables.proofs.rows.bottom.Tie as tie
-use Rattle.tables.proofs.rows.bottom.Reads as reads
-use Rattle.tables.proofs.rows.bottom.Lts as lts
 
--- src/rows.rt:24:21
 add-t6 : tie.Need-add-t6
 add-t6 c = search needs
 
--- src/rows.rt:24:20
 cast-t7 : tie.Need-cast-t7
 cast-t7 c = search needs
 
--- src/rows.rt:24:9
 returns : tie.Need-returns
 returns c = sym (bottom-low (c .before .before .before .args .t) (c .before .before .before .args .p) (c .before .before .before .args .spot .offset) (c .before .before .before .pre .0) (c .before .if1 .taken))
 
--- src/rows.rt:26:15
 add-t8 : tie.Need-add-t8
 add-t8 c = search needs
 
--- src/rows.rt:26:15
 sub-t9 : tie.Need-sub-t9
 sub-t9 c = search needs
 
--- src/rows.rt:26:10
 add-t10 : tie.Need-add-t10
 add-t10 c = search needs
 
--- src/rows.rt:26:9
 cast-t11 : tie.Need-cast-t11
 cast-t11 c = search needs
 
--- src/rows.rt:19:1
 returns-2 : tie.Need-returns-2
 returns-2 c = sym (bottom-high (c .before .before .before .args .t) (c .before .before .before .args .p) (c .before .before .before .args .spot .offset) (c .before .before .before .pre .1) (c .before .if1 .left))
 

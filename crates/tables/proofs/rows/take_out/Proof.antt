@@ -1,59 +1,45 @@
+-- `tables::rows::take_out` meets its contract: the machine's exclusive or is `_⊕_`.
 use borrow.Author.Needs.{needs}
 use Rattle.math.specs.Xor.{_⊕_}
 use Rattle.tables.proofs.rows.take_out.Statement.{statement}
 use Rattle.tables.proofs.rows.take_out.Tie as tie
-use Rattle.tables.proofs.rows.take_out.Reads as reads
-use Rattle.tables.proofs.rows.take_out.Lts as lts
 
--- src/rows.rt:55:13
 cast-i : tie.Need-cast-i
 cast-i c = search needs
 
--- src/rows.rt:56:15
 mul-left : tie.Need-mul-left
 mul-left c = search needs
 
--- src/rows.rt:56:15
 slice-read-left : tie.Need-slice-read-left
 slice-read-left c = search needs
 
--- src/rows.rt:56:15
 sub-left : tie.Need-sub-left
 sub-left c = search needs
 
--- src/rows.rt:56:5
 mul-left-2 : tie.Need-mul-left-2
 mul-left-2 c = search needs
 
--- src/rows.rt:56:5
 slice-write-left : tie.Need-slice-write-left
 slice-write-left c = search needs
 
--- src/rows.rt:57:15
 mul-code : tie.Need-mul-code
 mul-code c = search needs
 
--- src/rows.rt:57:15
 slice-read-code : tie.Need-slice-read-code
 slice-read-code c = search needs
 
--- src/rows.rt:57:5
 mul-code-2 : tie.Need-mul-code-2
 mul-code-2 c = search needs
 
--- src/rows.rt:57:5
 slice-write-code : tie.Need-slice-write-code
 slice-write-code c = search needs
 
--- src/rows.rt:50:1
 same-length : tie.Need-same-length
 same-length c = search needs
 
--- src/rows.rt:50:1
 same-length-2 : tie.Need-same-length-2
 same-length-2 c = search needs
 
--- src/rows.rt:50:1
 returns : tie.Need-returns
 unfolding _⊕_
 returns c = search needs

@@ -1,102 +1,77 @@
+-- `tables::sums::add_section` meets its contract: the three parts together are the section, once straight and once turned.
 use mathlib.Core.Path.{refl}
 use native.Mathlib.Omega.{arith}
 use borrow.Author.Needs.{needs}
 use Rattle.tables.specs.SumLaws.{section-parts}
 use Rattle.tables.proofs.sums.add_section.Statement.{statement}
 use Rattle.tables.proofs.sums.add_section.Tie as tie
-use Rattle.tables.proofs.sums.add_section.Reads as reads
-use Rattle.tables.proofs.sums.add_section.Lts as lts
-use Rattle.tables.proofs.sums.xor_into.Reads as xor-into-reads
 
--- src/sums.rt:25:15
 mul-cut : tie.Need-mul-cut
 mul-cut c = omega arith
 
--- src/sums.rt:25:15
 sub-cut : tie.Need-sub-cut
 sub-cut c = omega arith
 
--- src/sums.rt:26:15
 mul-end : tie.Need-mul-end
 mul-end c = omega arith
 
--- src/sums.rt:27:14
 sub-xor-into : tie.Need-sub-xor-into
 sub-xor-into c = omega arith
 
--- src/sums.rt:27:14
 part-xor-into-start : tie.Need-part-xor-into-start
 part-xor-into-start c = omega arith
 
--- src/sums.rt:27:14
 part-xor-into-end : tie.Need-part-xor-into-end
 part-xor-into-end c = omega arith
 
--- src/sums.rt:27:5
 xor-into-requires : tie.Need-xor-into-requires
 xor-into-requires c κs = omega arith
 
--- src/sums.rt:28:14
 sub-xor-into-2 : tie.Need-sub-xor-into-2
 sub-xor-into-2 c = omega arith
 
--- src/sums.rt:28:14
 part-xor-into-start-2 : tie.Need-part-xor-into-start-2
 part-xor-into-start-2 c = omega arith
 
--- src/sums.rt:28:14
 part-xor-into-end-2 : tie.Need-part-xor-into-end-2
 part-xor-into-end-2 c = omega arith
 
--- src/sums.rt:28:32
 sub-xor-into-3 : tie.Need-sub-xor-into-3
 sub-xor-into-3 c = omega arith
 
--- src/sums.rt:28:32
 part-xor-into-start-3 : tie.Need-part-xor-into-start-3
 part-xor-into-start-3 c = omega arith
 
--- src/sums.rt:28:32
 part-xor-into-end-3 : tie.Need-part-xor-into-end-3
 part-xor-into-end-3 c = omega arith
 
--- src/sums.rt:28:5
 xor-into-requires-2 : tie.Need-xor-into-requires-2
 xor-into-requires-2 c κs = omega arith
 
--- src/sums.rt:29:14
 sub-xor-into-4 : tie.Need-sub-xor-into-4
 sub-xor-into-4 c = omega arith
 
--- src/sums.rt:29:14
 part-xor-into-start-4 : tie.Need-part-xor-into-start-4
 part-xor-into-start-4 c = omega arith
 
--- src/sums.rt:29:14
 part-xor-into-end-4 : tie.Need-part-xor-into-end-4
 part-xor-into-end-4 c = omega arith
 
--- src/sums.rt:29:34
 sub-xor-into-5 : tie.Need-sub-xor-into-5
 sub-xor-into-5 c = omega arith
 
--- src/sums.rt:29:34
 part-xor-into-start-5 : tie.Need-part-xor-into-start-5
 part-xor-into-start-5 c = omega arith
 
--- src/sums.rt:29:34
 part-xor-into-end-5 : tie.Need-part-xor-into-end-5
 part-xor-into-end-5 c = omega arith
 
--- src/sums.rt:29:5
 xor-into-requires-3 : tie.Need-xor-into-requires-3
 xor-into-requires-3 c κs = omega arith
 
--- src/sums.rt:21:1
 same-length : tie.Need-same-length
 same-length c = search needs
 
--- src/sums.rt:21:1
 returns : tie.Need-returns
 returns c =
     section-parts (c .before .before .before .before .before .before .before .before .before .before .before .before .before .before .before .before .args .t) (c .before .before .before .before .before .before .before .before .before .before .before .before .before .before .before .before .args .p) _ _ _ _ _ _ _ _ _ _ (c .before .before .before .before .before .before .before .before .before .before .before .before .before .before .before .before .pre .0) (c .before .before .before .before .before .before .before .before .before .before .before .before .before .before .before .before .pre .2) refl refl refl (c .before .before .before .before .before .before .before .before .before .before .before .before .xor-into .ensures) refl (c .before .before .before .before .before .before .before .xor-into2 .ensures) refl (c .before .before .xor-into3 .ensures)

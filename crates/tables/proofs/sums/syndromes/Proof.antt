@@ -1,3 +1,4 @@
+-- `tables::sums::syndromes` meets its contract. The invariant: the table holds the sums over the first j sections.
 use mathlib.Core.Path.{_≡_, sym, _∙_}
 use Prim.Native.Nat.{_≤_, _-_, _*_}
 use native.Mathlib.Omega.{arith}
@@ -5,9 +6,6 @@ use borrow.Author.Needs.{needs}
 use Rattle.tables.specs.SumLaws.{Summed, summed-none, summed-more, summed-all, one-more, section-fits, section-part, section-long, zeros-long}
 use Rattle.tables.proofs.sums.syndromes.Statement.{statement}
 use Rattle.tables.proofs.sums.syndromes.Tie as tie
-use Rattle.tables.proofs.sums.syndromes.Reads as reads
-use Rattle.tables.proofs.sums.syndromes.Lts as lts
-use Rattle.tables.proofs.sums.add_section.Reads as add-section-reads
 
 abbrev Inv-loop : tie.InvT-loop
 Inv-loop n t shifts block sum₀ j₀ a₀ sum j a = (j ≤ n) × (a ≡ j * t) × Summed n t shifts block j sum
@@ -15,39 +13,30 @@ Inv-loop n t shifts block sum₀ j₀ a₀ sum j a = (j ≤ n) × (a ≡ j * t) 
 abbrev μ-loop : tie.MeasureT-loop
 μ-loop n t shifts block sum₀ j₀ a₀ sum j a = n - j
 
--- src/sums.rt:39:5
 loop-holds : tie.Need-loop-holds Inv-loop μ-loop
 loop-holds c = (omega arith, omega arith, summed-none _ _ _ _ _ (c .before .before .before .pre .2))
 
--- src/sums.rt:40:17
 mul-p : tie.Need-mul-p Inv-loop μ-loop
 mul-p c = omega (arith, c .before .before .before .before .before .pre .0 .n-max)
 
--- src/sums.rt:40:17
 shared-slice-read-p : tie.Need-shared-slice-read-p Inv-loop μ-loop
 shared-slice-read-p c = omega (arith, c .before .before .before .before .before .before .pre .0 .long)
 
--- src/sums.rt:40:17
 cast-p : tie.Need-cast-p Inv-loop μ-loop
 cast-p c = omega (arith, c .shared-slice-known3 .given (c .before .before .loop .j))
 
--- src/sums.rt:41:19
 add-end : tie.Need-add-end Inv-loop μ-loop
 add-end c = omega (arith, section-fits (c .before .before .before .before .before .before .args .n) (c .before .before .before .before .before .before .args .t) (c .before .before .loop .j) (c .before .before .loop .a) (c .before .loop-test .taken) (c .before .before .loop .inv .1), c .before .before .before .before .before .before .pre .0 .places-max)
 
--- src/sums.rt:42:27
 sub-add-section : tie.Need-sub-add-section Inv-loop μ-loop
 sub-add-section c = search needs
 
--- src/sums.rt:42:27
 part-add-section-start : tie.Need-part-add-section-start Inv-loop μ-loop
 part-add-section-start c = search needs
 
--- src/sums.rt:42:27
 part-add-section-end : tie.Need-part-add-section-end Inv-loop μ-loop
 part-add-section-end c = omega (arith, section-fits (c .before .before .before .before .before .before .args .n) (c .before .before .before .before .before .before .args .t) (c .before .before .loop .j) (c .before .before .loop .a) (c .before .loop-test .taken) (c .before .before .loop .inv .1), c .before .before .before .before .before .before .pre .1)
 
--- src/sums.rt:42:9
 add-section-requires : tie.Need-add-section-requires Inv-loop μ-loop
 add-section-requires c κs = (
   c .before .before .before .before .before .before .before .before .pre .0 .below (c .before .before .before .before .loop .j) (omega arith),
@@ -55,15 +44,12 @@ add-section-requires c κs = (
   c .before .before .before .before .loop .inv .2 .long,
 )
 
--- src/sums.rt:44:9
 add-j : tie.Need-add-j Inv-loop μ-loop
 add-j c = search needs
 
--- src/sums.rt:39:5
 loop-less : tie.Need-loop-less Inv-loop μ-loop
 loop-less c = search needs
 
--- src/sums.rt:39:5
 loop-again : tie.Need-loop-again Inv-loop μ-loop
 loop-again c = (
   omega arith,
@@ -72,11 +58,9 @@ loop-again c = (
       (section-part (c .before .before .before .before .before .before .before .before .before .before .before .args .t) (c .before .before .before .before .before .before .before .loop .j) (c .before .before .before .before .before .before .before .loop .a) (c .before .before .before .before .before .before .before .before .before .before .before .args .block .now) (c .before .before .before .before .before .before .before .loop .inv .1)) (c .before .before .add-section .ensures),
 )
 
--- src/sums.rt:33:1
 same-length : tie.Need-same-length Inv-loop μ-loop
 same-length c = c .before .loop .inv .2 .long ∙ sym (zeros-long (c .before .before .before .before .before .args .t) (c .before .before .before .before .before .args .sum .now) (c .before .before .before .before .before .pre .2))
 
--- src/sums.rt:33:1
 returns : tie.Need-returns Inv-loop μ-loop
 returns c = summed-all (c .before .before .before .before .before .pre .0) (c .before .loop .inv .2) (c .before .loop .inv .0) (c .loop-test .left)
 

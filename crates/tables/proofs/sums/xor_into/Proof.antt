@@ -1,14 +1,12 @@
+-- `tables::sums::xor_into` meets its contract. The invariant: the first i symbols have their sum, the others are as they were.
 use Prim.Native.Nat.{_≤_, _-_}
 use mathlib.Core.Path.{refl}
 use native.Mathlib.Omega.{arith}
-use borrow.Author.Needs.{needs}
 use lib.ListN.{length}
 use Rattle.math.specs.Xor.{_⊕_}
 use Rattle.tables.specs.SumLaws.{XoredTo, xored-none, xored-more, xored-all}
 use Rattle.tables.proofs.sums.xor_into.Statement.{statement}
 use Rattle.tables.proofs.sums.xor_into.Tie as tie
-use Rattle.tables.proofs.sums.xor_into.Reads as reads
-use Rattle.tables.proofs.sums.xor_into.Lts as lts
 
 abbrev Inv-loop : tie.InvT-loop
 Inv-loop dst₀ src i₀ dst i = (i ≤ length dst₀) × XoredTo dst₀ src i dst
@@ -16,40 +14,31 @@ Inv-loop dst₀ src i₀ dst i = (i ≤ length dst₀) × XoredTo dst₀ src i d
 abbrev μ-loop : tie.MeasureT-loop
 μ-loop dst₀ src i₀ dst i = length dst₀ - i
 
--- src/sums.rt:14:5
 loop-holds : tie.Need-loop-holds Inv-loop μ-loop
 loop-holds c = (omega arith, xored-none (c .args .dst .now) (c .args .src .now))
 
--- src/sums.rt:15:18
 slice-read-dst : tie.Need-slice-read-dst Inv-loop μ-loop
 slice-read-dst c = omega arith
 
--- src/sums.rt:15:27
 shared-slice-read-dst : tie.Need-shared-slice-read-dst Inv-loop μ-loop
 shared-slice-read-dst c = omega arith
 
--- src/sums.rt:15:9
 slice-write-dst : tie.Need-slice-write-dst Inv-loop μ-loop
 slice-write-dst c = omega arith
 
--- src/sums.rt:16:9
 add-i : tie.Need-add-i Inv-loop μ-loop
 add-i c = omega arith
 
--- src/sums.rt:14:5
 loop-less : tie.Need-loop-less Inv-loop μ-loop
 loop-less c = omega arith
 
--- src/sums.rt:14:5
 loop-again : tie.Need-loop-again Inv-loop μ-loop
 unfolding _⊕_
 loop-again c = (omega arith, xored-more _ (c .before .before .before .loop .inv .1) (omega arith) refl)
 
--- src/sums.rt:9:1
 same-length : tie.Need-same-length Inv-loop μ-loop
 same-length c = c .before .loop .inv .1 .long
 
--- src/sums.rt:9:1
 returns : tie.Need-returns Inv-loop μ-loop
 returns c = xored-all (c .before .loop .inv .1) (c .before .before .pre) (omega arith)
 
