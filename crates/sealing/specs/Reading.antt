@@ -1,0 +1,29 @@
+-- Reading: the row test tells codewords from other blocks.
+-- Main result: tells-codeword.
+use mathlib.Core.Path.{_≡_, sym, _∙_, ap}
+use mathlib.Core.List.{List, []}
+use Prim.Native.Nat.{ℕ, _*_, _<_}
+use native.Mathlib.Omega.{arith}
+use lib.ListN.{length, getD}
+use Rattle.plan.specs.Layout.{layout}
+use Rattle.code.specs.Codewords.{Codeword}
+use Rattle.peel.specs.Fill.{cleanOf, clean-zero, zero-clean}
+use mathlib.Core.Bool.{Bool, true, false, true≢false}
+use Rattle.tables.specs.SumLaws.{Syndromes}
+
+-- the test says whether A holds
+pub record Tells (A : Type 0) (b : Bool) : Type 0 where
+  pub yes : b ≡ true → A
+  pub no : b ≡ false → ¬ A
+
+-- the test goes by a list that is the table of row sums
+pub tells-codeword : (n t : ℕ) (shifts v : List ℕ) {sum list : List ℕ} {b : Bool} → length v ≡ n * t → ((c : ℕ) → getD v c 0 < 256) →
+    Syndromes n t shifts v sum → list ≡ sum → b ≡ cleanOf list [] → Tells (Codeword (layout n t shifts) v) b
+unfolding layout
+tells-codeword n t shifts v {sum} {list} long byte s same e =
+    let f = e ∙ ap (λ l. cleanOf l []) same in
+    record {
+      yes = λ q. record { whole = long; symbols = byte; sums = λ r h. sym (s .each r h) ∙ clean-zero sum [] (sym f ∙ q) r .0 };
+      no = λ q w. true≢false
+          (sym (zero-clean sum [] (λ r h. let l : r < 2 * t = omega (arith, s .long) in s .each r l ∙ w .sums r l) (λ r h. absurd (omega arith))) ∙ sym f ∙ q);
+    }
