@@ -1,0 +1,38 @@
+-- `parse` meets its contract: each answer by the tests that led to it. Assumes nothing.
+use borrow.Author.Needs.{needs}
+use Rattle.commands.specs.CommandLaws.{nothing, unknown, short, whole}
+use Rattle.commands.proofs.parse.Statement.{statement}
+use Rattle.commands.proofs.parse.Tie as tie
+
+returns : tie.Need-returns
+returns c = nothing _ (c .if1 .taken)
+
+shared-slice-read-size-of : tie.Need-shared-slice-read-size-of
+shared-slice-read-size-of c = search needs
+
+size-of-requires : tie.Need-size-of-requires
+size-of-requires c κs = search needs
+
+returns-2 : tie.Need-returns-2
+returns-2 c = unknown (c .before .before .before .before .before .args .bytes .now) (c .before .before .before .if1 .left) (c .before .size-of .ensures) (c .if2 .taken)
+
+returns-3 : tie.Need-returns-3
+returns-3 c = short (c .before .before .before .before .before .before .args .bytes .now) (c .before .before .before .before .if1 .left) (c .before .before .size-of .ensures) (c .before .if2 .left) (c .if3 .taken)
+
+command-of-requires : tie.Need-command-of-requires
+command-of-requires c κs = search needs
+
+returns-4 : tie.Need-returns-4
+returns-4 c = whole (c .before .before .before .before .before .before .before .args .bytes .now) (c .before .before .before .before .before .if1 .left) (c .before .before .before .size-of .ensures) (c .before .before .if2 .left) (c .before .if3 .left) (c .command-of .ensures)
+
+pub parse-spec : {M : Type 1} → statement M
+parse-spec =
+    tie.close
+    (tie.spec
+    returns
+    shared-slice-read-size-of
+    size-of-requires
+    returns-2
+    returns-3
+    command-of-requires
+    returns-4)

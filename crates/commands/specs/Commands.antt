@@ -1,0 +1,45 @@
+-- Reading a command (01, "The job and its sheet"): "Commands are one hex byte, operands unsigned, low byte first, width in bytes in brackets."
+use mathlib.Core.Bool.{cond}
+use mathlib.Core.List.{List, [], _∷_}
+use Prim.Native.Nat.{ℕ, _+_, _*_}
+use lib.Dec.{eqb, ltb}
+use lib.ListN.{length, getD}
+use Rattle.commands.specs.declared.Command.{Command}
+use Rattle.commands.specs.declared.Command.the-variants.{NewPlan, SetShift, SetSymbol, MarkOne, MarkRun, Recover, Seal, Show, Figures, Straight, Powers, Ruler}
+use Rattle.commands.specs.declared.Parsed.{Parsed}
+use Rattle.commands.specs.declared.Parsed.the-variants.{Whole, Unknown, Short, Nothing}
+
+-- the bytes that a command takes, its first byte among them; 0: no such command
+unfoldable pub sizeOf : ℕ → ℕ
+sizeOf b =
+    cond (eqb b 0x01) 4 (cond (eqb b 0x02) 4 (cond (eqb b 0x03) 4 (cond (eqb b 0x04) 3 (cond (eqb b 0x05) 5 (cond (eqb b 0x06) 1
+    (cond (eqb b 0x07) 1 (cond (eqb b 0x08) 3 (cond (eqb b 0x09) 1 (cond (eqb b 0x0A) 4 (cond (eqb b 0x0B) 6 (cond (eqb b 0x0C) 2 0)))))))))))
+
+-- a byte, and a two-byte number, low byte first
+abbrev pub one : List ℕ → ℕ → ℕ
+one s i = getD s i 0
+
+abbrev pub two : List ℕ → ℕ → ℕ
+two s i = getD s i 0 + 256 * getD s (i + 1) 0
+
+-- the command that begins with a known first byte
+unfoldable pub commandOf : List ℕ → Command
+commandOf s =
+    cond (eqb (one s 0) 0x01) (NewPlan (one s 1) (two s 2))
+    (cond (eqb (one s 0) 0x02) (SetShift (one s 1) (two s 2))
+    (cond (eqb (one s 0) 0x03) (SetSymbol (two s 1) (one s 3))
+    (cond (eqb (one s 0) 0x04) (MarkOne (two s 1))
+    (cond (eqb (one s 0) 0x05) (MarkRun (two s 1) (two s 3))
+    (cond (eqb (one s 0) 0x06) Recover
+    (cond (eqb (one s 0) 0x07) Seal
+    (cond (eqb (one s 0) 0x08) (Show (two s 1))
+    (cond (eqb (one s 0) 0x09) Figures
+    (cond (eqb (one s 0) 0x0A) (Straight (one s 1) (two s 2))
+    (cond (eqb (one s 0) 0x0B) (Powers (one s 1) (two s 2) (two s 4))
+    (Ruler (one s 1))))))))))))
+
+-- what stands at the front of the bytes: 7 (unknown first byte) goes before 8 (the job ends inside a command)
+unfoldable pub parsed : List ℕ → Parsed
+parsed [] = Nothing
+parsed (b ∷ rest) =
+    cond (eqb (sizeOf b) 0) Unknown (cond (ltb (length (b ∷ rest)) (sizeOf b)) Short (Whole (commandOf (b ∷ rest))))

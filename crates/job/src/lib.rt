@@ -1,0 +1,1 @@
+// One command of a job: read, performed on the lent state, its line written.

@@ -1,0 +1,65 @@
+-- `spell` meets its contract: the record Spelling is its invariant. Assumes nothing.
+use mathlib.Core.Path.{_≡_, refl, subst}
+use native.Mathlib.Omega.{arith}
+use Rattle.lines.specs.DigitLoops.{Spelling, spelling-start, spelling-step, spelling-end}
+use Rattle.lines.proofs.digits.spell.Statement.{statement}
+use Rattle.lines.proofs.digits.spell.Tie as tie
+
+abbrev Inv-loop : tie.InvT-loop
+Inv-loop line₀ at k n i₀ rest₀ line i rest = Spelling line₀ at k n i rest line
+
+abbrev μ-loop : tie.MeasureT-loop
+μ-loop line₀ at k n i₀ rest₀ line i rest = i
+
+loop-holds : tie.Need-loop-holds Inv-loop μ-loop
+loop-holds c = spelling-start _ _ _ _
+
+sub-i : tie.Need-sub-i Inv-loop μ-loop
+sub-i c = omega arith
+
+cast-line : tie.Need-cast-line Inv-loop μ-loop
+cast-line c = omega arith
+
+add-line : tie.Need-add-line Inv-loop μ-loop
+add-line c = omega arith
+
+add-line-2 : tie.Need-add-line-2 Inv-loop μ-loop
+add-line-2 c = omega arith
+
+slice-write-line : tie.Need-slice-write-line Inv-loop μ-loop
+slice-write-line c = omega arith
+
+loop-less : tie.Need-loop-less Inv-loop μ-loop
+loop-less c = omega arith
+
+loop-again : tie.Need-loop-again Inv-loop μ-loop
+loop-again c =
+    let a = c .before .before .args in
+    spelling-step (a .line .now) (a .at) (a .k) (a .n) (c .before .loop .inv) (omega arith) (omega arith) refl refl
+
+same-length : tie.Need-same-length Inv-loop μ-loop
+same-length c = omega arith
+
+returns : tie.Need-returns Inv-loop μ-loop
+returns c =
+    let a = c .before .before .args in
+    let l = c .before .loop in
+    let none : l .i ≡ 0 = omega arith in
+    spelling-end (a .line .now) (a .at) (a .k) (a .n) (subst (λ i. Spelling (a .line .now) (a .at) (a .k) (a .n) i (l .rest) (l .line)) none (l .inv))
+
+pub spell-spec : {M : Type 1} → statement M
+spell-spec =
+    tie.close
+    (tie.spec
+    Inv-loop
+    μ-loop
+    loop-holds
+    sub-i
+    cast-line
+    add-line
+    add-line-2
+    slice-write-line
+    loop-less
+    loop-again
+    same-length
+    returns)

@@ -1,0 +1,42 @@
+-- `put_number` meets its contract: the space, then the digits. Assumes nothing.
+use borrow.Author.Needs.{needs}
+use mathlib.Core.Path.{_∙_}
+use native.Mathlib.Omega.{arith}
+use lib.ListN.{length-set}
+use Rattle.lines.specs.DecimalLaws.{length-decimal-is}
+use Rattle.lines.specs.LinesLaws.{appends-number}
+use Rattle.lines.proofs.pieces.put_number.Statement.{statement}
+use Rattle.lines.proofs.pieces.put_number.Tie as tie
+
+width-requires : tie.Need-width-requires
+width-requires c κs = search needs
+
+slice-write-line : tie.Need-slice-write-line
+slice-write-line c = search needs
+
+add-from : tie.Need-add-from
+add-from c = search needs
+
+spell-requires : tie.Need-spell-requires
+spell-requires c κs = simp length-set (omega (arith, length-decimal-is (c .before .before .before .args .n)))
+
+add-result : tie.Need-add-result
+add-result c = search needs
+
+same-length : tie.Need-same-length
+same-length c = c .before .before .spell .kept .0 ∙ length-set (c .before .before .before .before .before .before .args .line .now) (c .before .before .before .before .before .before .args .at) 32
+
+returns : tie.Need-returns
+returns c = appends-number _ _ _ _ _ (c .before .before .before .before .width .ensures .0) (omega arith) (c .before .before .spell .ensures) (c .before .before .spell .kept .0)
+
+pub put-number-spec : {M : Type 1} → statement M
+put-number-spec =
+    tie.close
+    (tie.spec
+    width-requires
+    slice-write-line
+    add-from
+    spell-requires
+    add-result
+    same-length
+    returns)

@@ -1,0 +1,73 @@
+-- `put_word` meets its contract. The invariant: the first i bytes of the word are put. Assumes nothing.
+use Prim.Native.Nat.{_+_, _-_, _≤_}
+use mathlib.Core.Path.{_≡_, _∙_, ap, subst}
+use native.Mathlib.Nat.{add-zero}
+use native.Mathlib.Omega.{arith}
+use lib.ListN.{length, take}
+use lib.Seq.{take-length}
+use Rattle.lines.specs.Lines.{Appends}
+use Rattle.lines.specs.LinesLaws.{appends-none, appends-next}
+use Rattle.lines.proofs.pieces.put_word.Statement.{statement}
+use Rattle.lines.proofs.pieces.put_word.Tie as tie
+
+abbrev Inv-loop : tie.InvT-loop
+Inv-loop line₀ at word i₀ line i = (i ≤ length word) × Appends line₀ at (take i word) line (at + i)
+
+abbrev μ-loop : tie.MeasureT-loop
+μ-loop line₀ at word i₀ line i = length word - i
+
+loop-holds : tie.Need-loop-holds Inv-loop μ-loop
+loop-holds c =
+    let a = c .args in
+    (omega arith, rw (add-zero (a .at)) (appends-none (a .line .now) (a .at)))
+
+shared-slice-read-line : tie.Need-shared-slice-read-line Inv-loop μ-loop
+shared-slice-read-line c = omega arith
+
+add-line : tie.Need-add-line Inv-loop μ-loop
+add-line c = omega arith
+
+slice-write-line : tie.Need-slice-write-line Inv-loop μ-loop
+slice-write-line c = omega arith
+
+add-i : tie.Need-add-i Inv-loop μ-loop
+add-i c = omega arith
+
+loop-less : tie.Need-loop-less Inv-loop μ-loop
+loop-less c = omega arith
+
+loop-again : tie.Need-loop-again Inv-loop μ-loop
+loop-again c =
+    let a = c .before .before .before .args in
+    let l = c .before .before .loop in
+    (omega arith, appends-next (a .line .now) (l .line) (a .word .now) (a .at) (l .i) (omega arith) (omega arith) (l .inv .1))
+
+add-result : tie.Need-add-result Inv-loop μ-loop
+add-result c = omega arith
+
+same-length : tie.Need-same-length Inv-loop μ-loop
+same-length c = omega arith
+
+returns : tie.Need-returns Inv-loop μ-loop
+returns c =
+    let a = c .before .before .args in
+    let l = c .before .loop in
+    let all : l .i ≡ length (a .word .now) = omega arith in
+    subst (λ t. Appends (a .line .now) (a .at) t (l .line) (a .at + l .i)) (ap (λ k. take k (a .word .now)) all ∙ take-length (a .word .now)) (l .inv .1)
+
+pub put-word-spec : {M : Type 1} → statement M
+put-word-spec =
+    tie.close
+    (tie.spec
+    Inv-loop
+    μ-loop
+    loop-holds
+    shared-slice-read-line
+    add-line
+    slice-write-line
+    add-i
+    loop-less
+    loop-again
+    add-result
+    same-length
+    returns)

@@ -1,0 +1,242 @@
+-- What an attempt by peeling shows. Main results: tried-fills, tried-recovers (nothing is left: the block is filled with the one codeword that agrees),
+-- tried-explains (otherwise the refusal is explained: if the erasures are a forest, no codeword agrees), call-given, call-decided (the call).
+use mathlib.Core.Path.{_≡_, refl, sym, _∙_, ap}
+use mathlib.Core.Logic.{inl, by-cases}
+use mathlib.Core.Bool.{true, false, true≢false}
+use mathlib.Core.List.{List, [], _++_, List·Memᴰ·not-nil, Memᴰ·cast}
+use Prim.Native.Nat.{ℕ, _*_, _≤_, _<_}
+use native.Mathlib.Omega.{arith}
+use lib.ListN.{length, getD, take, replicate, length-append}
+use lib.Seq.{ext-getD, take-at}
+use Rattle.math.specs.Members.{_∈_}
+use Rattle.math.specs.MembersLaws.{decIn}
+use Rattle.plan.specs.Layout.{Layout, Valid, layout, top}
+use Rattle.plan.specs.Plans.{layoutOf}
+use Rattle.plan.specs.PlanLaws.{good-bounds}
+use Rattle.plan.specs.declared.Plan.{Plan}
+use Rattle.code.specs.Places.{places}
+use Rattle.code.specs.Codewords.{at, blank, Agrees, None}
+use Rattle.code.specs.Marks.{markBytes, erasures}
+use Rattle.code.specs.Laws.Forest.{Erased, Forest}
+use Rattle.code.specs.Laws.Basics.{places-∈, meets-row, syndrome-ext}
+use Rattle.code.specs.Laws.Settle.{blank-out}
+use Rattle.code.specs.Laws.MarksLaws.{erasures-erased}
+use Rattle.tables.specs.Picture.{Picture}
+use Rattle.tables.specs.Sizes.{sized-valid, ∈-sized}
+use Rattle.tables.specs.Scan.{fromPlace, from-zero}
+use Rattle.tables.specs.StuckLaws.{onRow-some, length-onRow-le, stuck-none}
+use Rattle.peel.specs.Peels.{Peelable, Peeled, Peels}
+use Rattle.peel.specs.Fill.{filled, Fillable, filled-long, filled-out, filled-at, cleanOf, clean-zero, zero-clean}
+use Rattle.calls.specs.Calls.{checkOf}
+use Rattle.calls.specs.CallsLaws.{pass-good, pass-spare}
+use Rattle.calls.specs.declared.Check.the-variants.{Pass}
+use Rattle.promises.specs.Promises.{Decides, Recovers, recoverLent}
+use Rattle.promises.specs.Building.{decides-recovered, recovers-passed, recover-lengths}
+use Rattle.promises.specs.declared.Recovery.{Recovery}
+use Rattle.promises.specs.declared.Recovery.the-variants.{Recovered}
+use Rattle.recovery.specs.Explains.{Marked, Explains}
+
+-- what a call that is not refused is lent
+pub record Given (n t : ℕ) (shifts block marks witness : List ℕ) : Type 0 where
+  pub marked : Marked n t shifts marks
+  pub block-long : length block ≡ n * t
+  pub witness-long : length witness ≡ 2 * t
+
+-- the tables picture the block with its erasures, and its sums are kept
+pub record Begun (n t : ℕ) (shifts block marks kept sum left code : List ℕ) : Type 0 where
+  pub symbols : (c : ℕ) → at block c < 256
+  pub same : kept ≡ sum
+  pub picture : Picture (layout n t shifts) (erasures (layout n t shifts) marks) (blank (erasures (layout n t shifts) marks) (at block)) sum left code
+
+-- the other tables have an entry for each row
+pub record Room (t : ℕ) (queue place value : List ℕ) : Type 0 where
+  pub queue-long : length queue ≡ 2 * t
+  pub place-long : length place ≡ 2 * t
+  pub value-long : length value ≡ 2 * t
+
+-- the tables begun are peeled, the k places and values being the ones settled
+pub record Tried (n t : ℕ) (shifts block marks kept sum left place value : List ℕ) (k : ℕ) : Type 0 where
+  pub sum₀ : List ℕ
+  pub left₀ : List ℕ
+  pub code₀ : List ℕ
+  pub code : List ℕ
+  pub begun : Begun n t shifts block marks kept sum₀ left₀ code₀
+  pub peels : Peels (layout n t shifts) sum₀ left₀ code₀ sum left code place value k
+
+-- ---- a block v with erasures E, peeled
+
+module _ (L : Layout) (ok : Valid L) (E v : List ℕ) {sum left code place value : List ℕ} {k : ℕ}
+    (er : Erased L E) (whole : length v ≡ L .n * L .t) (p : Peeled L E (blank E (at v)) sum left code place value k) where
+  -- a codeword that agrees is what peeling found, wherever nothing is left
+  agrees-found : (w : List ℕ) → Agrees L E v w → (c : ℕ) → c ∈ places L → ¬ (c ∈ p .F) → at w c ≡ p .x c
+  agrees-found w a = p .settles .forced (at w) (a .codeword .sums) (λ c m out. a .unmarked c (places-∈ L m .0) out ∙ sym (blank-out (at v) out))
+
+  settled-in : (i : ℕ) → i < k → getD place i 0 < length v
+  settled-in i h = let m = places-∈ L (er .inside (getD place i 0) (p .settles .settled i h .0)) .0 in omega arith
+
+  -- away from the erasures the filled block is as it was
+  filled-same : (c : ℕ) → ¬ (c ∈ E) → at (filled v place value k) c ≡ at v c
+  filled-same c out = filled-out v place value k (λ i h e. out (Memᴰ·cast (sym e) (p .settles .settled i h .0)))
+
+  module _ (clean : cleanOf sum left ≡ true) where
+    none-left : (c : ℕ) → ¬ (c ∈ p .F)
+    none-left c m =
+        omega (arith, onRow-some L m (inl refl), p .picture .lefts (top L c) (meets-row L ok c (inl refl)), clean-zero sum left clean (top L c) .1)
+
+    filled-found : (c : ℕ) → at (filled v place value k) c ≡ p .x c
+    filled-found c = by-cases (decIn c E)
+        (λ m. filled-at v place value (p .x) k settled-in (λ i h. p .settles .settled i h .2) (p .settles .listed c m (none-left c)))
+        (λ out. filled-same c out ∙ sym (p .settles .kept c out ∙ blank-out (at v) out))
+
+    filled-agrees : Agrees L E v (filled v place value k)
+    filled-agrees = record {
+      codeword = record {
+        whole = filled-long v place value k ∙ whole;
+        symbols = λ c. rw (filled-found c) (p .picture .byte c);
+        sums = λ r h. syndrome-ext L (at (filled v place value k)) (p .x) r (λ c m. filled-found c)
+            ∙ sym (p .picture .sums r h) ∙ clean-zero sum left clean r .0;
+      };
+      unmarked = λ c h out. filled-same c out;
+    }
+
+    filled-only : ((c : ℕ) → c < L .n * L .t → c ∈ places L) → (w : List ℕ) → Agrees L E v w → w ≡ filled v place value k
+    filled-only all w a = ext-getD 0 w (filled v place value k) (a .codeword .whole ∙ sym (filled-long v place value k ∙ whole))
+        (λ c h. agrees-found w a c (all c (rw (a .codeword .whole) at h)) (none-left c) ∙ sym (filled-found c))
+
+  -- a forest peels whole, so an agreeing codeword would leave no sum
+  forest-none : cleanOf sum left ≡ false → Forest L E → None (Agrees L E v)
+  forest-none dirty f w a =
+      let empty : p .F ≡ [] = stuck-none L ok (er .rising) f (p .picture .erased .rising) (p .settles .fewer) (p .stuck) in
+      let out : (c : ℕ) → ¬ (c ∈ p .F) = λ c m. List·Memᴰ·not-nil (rw empty at m) in
+      true≢false (sym (zero-clean sum left
+      (λ r h. let s : r < 2 * L .t = omega (arith, p .picture .sum-long) in
+      p .picture .sums r s ∙ syndrome-ext L (p .x) (at w) r (λ c m. sym (agrees-found w a c m (out c))) ∙ a .codeword .sums r s)
+      (λ r h. let e : length (p .F) ≡ 0 = ap length empty in
+      omega (arith, p .picture .lefts r (omega (arith, p .picture .left-long)), length-onRow-le L (p .F) r))) ∙ dirty)
+
+-- ---- the attempt
+
+module _ {n t : ℕ} {shifts block marks witness kept sum left code : List ℕ} (g : Given n t shifts block marks witness)
+    (b : Begun n t shifts block marks kept sum left code) where
+  pub attempt-peels : {queue place value : List ℕ} → Room t queue place value → Peelable n t shifts sum left code queue place value
+  attempt-peels r = record {
+    sized = g .marked .sized;
+    pictured = record { E = _; u = _; picture = b .picture };
+    queue-long = r .queue-long;
+    place-long = r .place-long;
+    value-long = r .value-long;
+  }
+
+  pub attempt-tried : {sum' left' code' place value : List ℕ} {k : ℕ} → Peels (layout n t shifts) sum left code sum' left' code' place value k
+      → Tried n t shifts block marks kept sum' left' place value k
+  attempt-tried q = record { sum₀ = _; left₀ = _; code₀ = _; code = _; begun = b; peels = q }
+
+module _ {n t : ℕ} {shifts block marks witness kept sum left place value : List ℕ} {k : ℕ} (g : Given n t shifts block marks witness)
+    (d : Tried n t shifts block marks kept sum left place value k) where
+  peeled : Peeled (layout n t shifts) (erasures (layout n t shifts) marks) (blank (erasures (layout n t shifts) marks) (at block)) sum left (d .code) place value k
+  peeled = d .peels .peeled _ _ (d .begun .picture)
+
+  pub tried-fills : Fillable block place value k
+  unfolding layout
+  tried-fills = record {
+    places = omega (arith, d .peels .few, d .peels .place-long);
+    values = omega (arith, d .peels .few, d .peels .value-long);
+    inside = settled-in (layout n t shifts) (sized-valid (g .marked .sized)) (erasures (layout n t shifts) marks) block (erasures-erased (layout n t shifts) marks) (g .block-long) peeled;
+  }
+
+  pub tried-recovers : {v' w' : List ℕ} → cleanOf sum left ≡ true → v' ≡ filled block place value k → w' ≡ replicate (length witness) 0
+      → Decides (layout n t shifts) (erasures (layout n t shifts) marks) block Recovered v' w'
+  unfolding layout
+  tried-recovers clean e f =
+      let L = layout n t shifts in
+      let ok = sized-valid (g .marked .sized) in
+      let E = erasures L marks in
+      let er = erasures-erased L marks in
+      rw e (decides-recovered (filled-agrees L ok E block er (g .block-long) peeled clean)
+      (filled-only L ok E block er (g .block-long) peeled clean (λ c. ∈-sized (g .marked .sized)))
+      (f ∙ ap (λ i. replicate i 0) (g .witness-long)))
+
+  pub tried-sums : (length kept ≡ 2 * t) × (length sum ≡ 2 * t)
+  unfolding layout
+  tried-sums = (ap length (d .begun .same) ∙ d .begun .picture .sum-long, peeled .picture .sum-long)
+
+  pub tried-explains : {r : Recovery} {w' : List ℕ} → cleanOf sum left ≡ false
+      → Explains (layout n t shifts) (erasures (layout n t shifts) marks) kept r w'
+      → Decides (layout n t shifts) (erasures (layout n t shifts) marks) block r block w'
+  unfolding layout
+  tried-explains dirty x =
+      x .decides block (g .block-long) (d .begun .symbols) (λ s h. rw (d .begun .same) (d .begun .picture .sums s h))
+      (forest-none (layout n t shifts) (sized-valid (g .marked .sized)) (erasures (layout n t shifts) marks) block (erasures-erased (layout n t shifts) marks) (g .block-long) peeled dirty)
+
+-- ---- the tables at the start
+
+-- the first m entries of an array whose first m were lent
+part-room : {m : ℕ} (x rest : List ℕ) → length x ≡ m → m ≤ length (x ++ rest)
+part-room x rest e = omega (arith, length-append x rest)
+
+part-count : {m : ℕ} (x rest : List ℕ) → length x ≡ m → m ≡ length (take m (x ++ rest))
+part-count {m} x rest e = sym (ap length (take-at x rest m e) ∙ e)
+
+-- the tables picture the block from place 0 on, in the first 2 × t entries of three arrays
+module _ {n t : ℕ} {shifts block marks witness sum left code : List ℕ} (g : Given n t shifts block marks witness)
+    (p : Picture (layout n t shifts) (fromPlace 0 (erasures (layout n t shifts) marks)) (blank (fromPlace 0 (erasures (layout n t shifts) marks)) (at block)) sum left code) where
+  begun-long : (length sum ≡ 2 * t) × (length left ≡ 2 * t) × (length code ≡ 2 * t)
+  unfolding layout
+  begun-long = (p .sum-long, p .left-long, p .code-long)
+
+  pub sums-room : (rest : List ℕ) → 2 * t ≤ length (sum ++ rest)
+  sums-room rest = part-room sum rest (begun-long .0)
+
+  pub sums-count : (rest : List ℕ) → 2 * t ≡ length (take (2 * t) (sum ++ rest))
+  sums-count rest = part-count sum rest (begun-long .0)
+
+  pub lefts-room : (rest : List ℕ) → 2 * t ≤ length (left ++ rest)
+  lefts-room rest = part-room left rest (begun-long .1)
+
+  pub lefts-count : (rest : List ℕ) → 2 * t ≡ length (take (2 * t) (left ++ rest))
+  lefts-count rest = part-count left rest (begun-long .1)
+
+  pub codes-room : (rest : List ℕ) → 2 * t ≤ length (code ++ rest)
+  codes-room rest = part-room code rest (begun-long .2)
+
+  pub codes-count : (rest : List ℕ) → 2 * t ≡ length (take (2 * t) (code ++ rest))
+  codes-count rest = part-count code rest (begun-long .2)
+
+  pub begun : (a b d : List ℕ) → ((c : ℕ) → at block c < 256)
+      → Begun n t shifts block marks (take (2 * t) (sum ++ a)) (take (2 * t) (sum ++ a)) (take (2 * t) (left ++ b)) (take (2 * t) (code ++ d))
+  begun a b d byte = record {
+    symbols = byte;
+    same = refl;
+    picture = rw (take-at sum a (2 * t) (begun-long .0), take-at left b (2 * t) (begun-long .1), take-at code d (2 * t) (begun-long .2))
+        (rw (from-zero (erasures (layout n t shifts) marks)) at p);
+  }
+
+-- ---- the call
+
+pub call-given : (p : Plan) (v m w : List ℕ) → length (p .shifts) ≡ 32 → checkOf p (recoverLent v m w) m ≡ Pass → Given (p .n) (p .t) (p .shifts) v m w
+unfolding layoutOf layout markBytes
+call-given p v m w long pass =
+    let l = recover-lengths p v m w pass in
+    let g = good-bounds p (pass-good p (recoverLent v m w) m pass) in
+    record {
+      marked = record {
+        sized = record {
+          n-min = g .size .n-least;
+          n-max = g .size .n-most;
+          t-min = g .size .t-least;
+          t-max = g .size .t-most;
+          places-max = g .size .places-most;
+          long = omega (arith, g .size .n-most);
+          below = g .below;
+        };
+        marks-long = l .1;
+        no-spare = pass-spare p (recoverLent v m w) m pass;
+      };
+      block-long = l .0;
+      witness-long = l .2;
+    }
+
+pub call-decided : (p : Plan) (v m w : List ℕ) {r : Recovery} {v' w' : List ℕ} → checkOf p (recoverLent v m w) m ≡ Pass
+    → Decides (layout (p .n) (p .t) (p .shifts)) (erasures (layout (p .n) (p .t) (p .shifts)) m) v r v' w' → Recovers p v m w r v' w'
+unfolding layoutOf
+call-decided p v m w pass d = recovers-passed p v m w pass d
