@@ -20,3 +20,4 @@ pub mod Carrying
 pub mod Decide
 pub mod Pairs
 pub mod Distance
+pub mod Rulers

@@ -1,16 +1,16 @@
 -- Numbers in base ten: how many digits, and the digits one by one from the last.
--- Main results: width-is, width-most, length-digits, length-decimal, decimal-is, moved.
-use mathlib.Core.Path.{_≡_, refl, ap}
+-- Main results: width-is, width-most, decimal-full, length-digits, length-decimal, decimal-is, moved.
+use mathlib.Core.Path.{_≡_, refl, ap, subst}
 use mathlib.Core.Logic.{by-cases}
 use mathlib.Core.List.{List, _∷_, _++_}
 use Prim.Native.Nat.{ℕ, zero, suc, _+_, _-_, _/_, _%_, _^_, _≤_, _<_}
-use native.Mathlib.Nat.{pow-le-pow-right, mod-lt}
+use native.Mathlib.Nat.{add-zero, pow-le-pow-right, mod-lt}
 use native.Mathlib.Decide.{decLt}
 use native.Mathlib.Omega.{arith}
 use lib.ListN.{length, length-append}
 use lib.Seq.{append-snoc}
 use borrow.Author.Tests.{lt-ltb, le-ltb}
-use Rattle.io.specs.Digits.{digits}
+use Rattle.io.specs.Digits.{digits, Fewest}
 use Rattle.lines.specs.Lines.{widthFrom, decimal}
 
 -- the search finds the fewest digits that hold n
@@ -49,6 +49,26 @@ width-from-most (suc fuel) j n k a h =
 
 pub width-most : (n k : ℕ) → 1 ≤ k → n < 10 ^ k → widthFrom 20 1 n ≤ k
 width-most n k a h = width-from-most 20 1 n k a h
+
+width-from-full : (fuel j n : ℕ) → n < 10 ^ (j + fuel) → Fewest 10 j n (widthFrom fuel j n)
+unfolding widthFrom
+width-from-full zero j n h = (omega arith, subst (λ k. n < 10 ^ k) (add-zero j) h, λ less. absurd (omega arith))
+width-from-full (suc fuel) j n h =
+    by-cases (decLt n (10 ^ j))
+    (λ less. rw (lt-ltb n (10 ^ j) less) (omega arith, less, λ not. absurd (omega arith)))
+    (λ not.
+    let m : 10 ^ j ≤ n = omega arith in
+    let e : j + suc fuel ≡ suc j + fuel = omega arith in
+    rw (le-ltb n (10 ^ j) m) (one-more (widthFrom fuel (suc j) n) m (width-from-full fuel (suc j) n (subst (λ k. n < 10 ^ k) e h))))
+  where
+    one-more : (w : ℕ) → 10 ^ j ≤ n → Fewest 10 (suc j) n w → Fewest 10 j n w
+    one-more w m f =
+        let a : suc j ≤ w = f .0 in
+        (omega arith, f .1, λ _. by-cases (decLt (suc j) w) (f .2) (λ not. let e : w - 1 ≡ j = omega arith in rw e m))
+
+-- no digit of a number of 64 bits is lost
+pub decimal-full : (n : ℕ) → n < 2 ^ 64 → Fewest 10 1 n (widthFrom 20 1 n)
+decimal-full n h = width-from-full 20 1 n (omega arith)
 
 pub length-digits : (b k n : ℕ) → length (digits b k n) ≡ k
 length-digits b zero n = refl

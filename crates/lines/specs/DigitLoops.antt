@@ -7,8 +7,8 @@ use Prim.Native.Nat.{ℕ, suc, _+_, _-_, _*_, _/_, _%_, _^_, _≤_, _<_}
 use native.Mathlib.Nat.{add-suc, add-zero, pow-suc, pow-le-pow-right}
 use native.Mathlib.Numerals.{add-one}
 use native.Mathlib.Omega.{arith}
-use lib.ListN.{length, take, set, length-set}
-use lib.Seq.{length-take-le, take-set-lt, take-suc-set, set-append-left, append-snoc}
+use lib.ListN.{length, take, drop, set, length-set}
+use lib.Seq.{length-take-le, take-set-lt, drop-set-lt, take-suc-set, set-append-left, append-snoc}
 use Rattle.io.specs.Digits.{digits}
 use Rattle.lines.specs.Lines.{widthFrom}
 use Rattle.lines.specs.DecimalLaws.{width-is, moved}
@@ -53,6 +53,7 @@ pub record Spelling (l : List ℕ) (at k n i rest : ℕ) (l' : List ℕ) : Type 
   pub stands : take (at + k) l' ≡ take (at + i) l ++ done
   pub within : i ≤ k
   pub long : length l' ≡ length l
+  pub kept : drop (at + k) l' ≡ drop (at + k) l
 
 module _ (l : List ℕ) (at k n : ℕ) where
   pub spelling-start : Spelling l at k n k n l
@@ -63,6 +64,7 @@ module _ (l : List ℕ) (at k n : ℕ) where
         stands = sym (append-nil (take (at + k) l));
         within = omega arith;
         long = refl;
+        kept = refl;
       }
 
   suc-step : {j rest : ℕ} {l' : List ℕ} → Spelling l at k n (suc j) rest l' → at + k ≤ length l →
@@ -86,6 +88,7 @@ module _ (l : List ℕ) (at k n : ℕ) where
             ∙ append-snoc (take (at + j) l) v (s .done);
         within = omega arith;
         long = length-set l' (at + j) v ∙ s .long;
+        kept = drop-set-lt (at + k) l' (at + j) v b ∙ s .kept;
       }
 
   pub spelling-step : {i rest j v : ℕ} {l' : List ℕ} → Spelling l at k n i rest l' → at + k ≤ length l → 0 < i → j ≡ i - 1 → v ≡ 48 + rest % 10 →

@@ -4,7 +4,7 @@ use mathlib.Core.Bool.{cond}
 use mathlib.Core.List.{List, [], _∷_, _++_}
 use Prim.Native.Nat.{ℕ, zero, suc, _+_, _^_, _≤_}
 use lib.Dec.{ltb}
-use lib.ListN.{length, take}
+use lib.ListN.{length, take, drop}
 use Rattle.io.specs.Digits.{digits}
 
 -- the number of decimal digits of n, at least 1: the fewest that hold it (searched from k on)
@@ -12,7 +12,7 @@ unfoldable pub widthFrom : ℕ → ℕ → ℕ → ℕ
 widthFrom zero k n = k
 widthFrom (suc fuel) k n = cond (ltb n (10 ^ k)) k (widthFrom fuel (suc k) n)
 
--- a number in base ten, in full
+-- a number in base ten, in full for numbers below 2 ^ 64 (decimal-full)
 unfoldable pub decimal : ℕ → List ℕ
 decimal n = digits 10 (widthFrom 20 1 n) n
 
@@ -54,14 +54,16 @@ endWord = 101 ∷ 110 ∷ 100 ∷ []
 abbrev pub lineLength : ℕ
 lineLength = 24600
 
--- a line was written: it stands at the front of the buffer, which is as long as before
+-- a line was written: it stands at the front of the buffer, which is as long as before; what stands past the line is kept
 pub record Wrote (buffer text buffer' : List ℕ) (count : ℕ) : Type 0 where
   pub text-stands : take count buffer' ≡ text
   pub within : count ≤ length buffer'
   pub long : length buffer' ≡ length buffer
+  pub rest : drop count buffer' ≡ drop count buffer
 
--- a text was put at an index: what stands before it is kept, and the next index is past it
+-- a text was put at an index: what stands before it and past it is kept, and the next index is past it
 pub record Appends (buffer : List ℕ) (at : ℕ) (text buffer' : List ℕ) (next : ℕ) : Type 0 where
   pub text-stands : take next buffer' ≡ take at buffer ++ text
   pub past : next ≡ at + length text
   pub long : length buffer' ≡ length buffer
+  pub rest : drop next buffer' ≡ drop next buffer

@@ -6,8 +6,8 @@ use Prim.Native.Nat.{ℕ, suc, _+_, _*_, _≤_, _<_}
 use native.Mathlib.Nat.{add-zero, add-assoc}
 use native.Mathlib.Numerals.{add-one}
 use native.Mathlib.Omega.{arith}
-use lib.ListN.{length, getD, take, set, length-append, length-set, length-take}
-use lib.Seq.{take-suc, take-suc-set}
+use lib.ListN.{length, getD, take, drop, set, length-append, length-set, length-take}
+use lib.Seq.{take-suc, take-suc-set, drop-set-lt, drop-drop}
 use Rattle.io.specs.Digits.{digits}
 use Rattle.lines.specs.Lines.{widthFrom, decimal, fields, line, lineLength, Wrote, Appends}
 use Rattle.lines.specs.DecimalLaws.{length-decimal-5, length-decimal-is, decimal-is}
@@ -15,7 +15,11 @@ use Rattle.lines.specs.DecimalLaws.{length-decimal-5, length-decimal-is,
 -- ---- pieces
 
 pub appends-none : (l : List ℕ) (at : ℕ) → Appends l at [] l at
-appends-none l at = record { text-stands = sym (append-nil (take at l)); past = sym (add-zero at); long = refl }
+appends-none l at = record { text-stands = sym (append-nil (take at l)); past = sym (add-zero at); long = refl; rest = refl }
+
+-- what is kept from x on is kept from any later index on
+kept-on : (x m : ℕ) (l' l : List ℕ) → drop x l' ≡ drop x l → drop (x + m) l' ≡ drop (x + m) l
+kept-on x m l' l e = sym (drop-drop m x l') ∙ ap (drop m) e ∙ drop-drop m x l
 
 pub appends-both : {l l' l'' : List ℕ} {at x y : ℕ} {s t : List ℕ} → Appends l at s l' x → Appends l' x t l'' y → Appends l at (s ++ t) l'' y
 appends-both {l} {l'} {l''} {at} {x} {y} {s} {t} a b =
@@ -23,6 +27,7 @@ appends-both {l} {l'} {l''} {at} {x} {y} {s} {t} a b =
       text-stands = b .text-stands ∙ ap (λ u. u ++ t) (a .text-stands) ∙ append-assoc (take at l) s t;
       past = b .past ∙ ap (λ u. u + length t) (a .past) ∙ add-assoc at (length s) (length t) ∙ ap (λ u. at + u) (sym (length-append s t));
       long = b .long ∙ a .long;
+      rest = b .rest ∙ subst (λ u. drop u l' ≡ drop u l) (sym (b .past)) (kept-on x (length t) l' l (a .rest));
     }
 
 -- a text from the front on is no longer than the buffer
@@ -35,17 +40,20 @@ appends-byte l at v h =
       text-stands = rw (add-one at) (take-suc-set l at v h);
       past = refl;
       long = length-set l at v;
+      rest = drop-set-lt (at + 1) l at v (omega arith);
     }
 
 -- a space, then the k digits
 pub appends-number : (l l' : List ℕ) (at n k : ℕ) → k ≡ widthFrom 20 1 n → at < length l →
-    take (at + 1 + k) l' ≡ take (at + 1) (set l at 32) ++ digits 10 k n → length l' ≡ length (set l at 32) → Appends l at (32 ∷ decimal n) l' (at + 1 + k)
-appends-number l l' at n k e h t long =
+    take (at + 1 + k) l' ≡ take (at + 1) (set l at 32) ++ digits 10 k n → length l' ≡ length (set l at 32) →
+    drop (at + 1 + k) l' ≡ drop (at + 1 + k) (set l at 32) → Appends l at (32 ∷ decimal n) l' (at + 1 + k)
+appends-number l l' at n k e h t long rest =
     appends-both (appends-byte l at 32 h)
     (record {
       text-stands = t ∙ ap (λ x. take (at + 1) (set l at 32) ++ x) (sym (decimal-is n k (sym e)));
       past = ap (λ x. at + 1 + x) (e ∙ sym (length-decimal-is n));
       long = long;
+      rest = rest;
     })
 
 -- ---- fields
@@ -103,7 +111,7 @@ more n {l} {l'} {l''} {word} {ns} {x} {y} a b = more-list (n ∷ []) a (subst (�
 
 pub ended : {l l' l'' word ns : List ℕ} {x y : ℕ} → Begun l word ns l' x → Appends l' x (10 ∷ []) l'' y → Wrote l (line word ns) l'' y
 unfolding line
-ended a b = let both = appends-both (a .so-far) b in record { text-stands = both .text-stands; within = appends-within both; long = both .long }
+ended a b = let both = appends-both (a .so-far) b in record { text-stands = both .text-stands; within = appends-within both; long = both .long; rest = both .rest }
 
 -- ---- lengths
 

@@ -2,7 +2,7 @@
 ghost use mathlib.Core.Path.{_≡_};
 ghost use mathlib.Core.List.{_++_};
 ghost use Prim.Native.Nat.{_+_, _≤_};
-ghost use lib.ListN.{length, take};
+ghost use lib.ListN.{length, take, drop};
 ghost use Rattle.io.specs.Digits.{digits};
 ghost use Rattle.lines.specs.Lines.{widthFrom};
 
@@ -26,10 +26,11 @@ pub fn width(n: u64) -> usize
     20
 }
 
-// The last k digits, from the last to the first.
+// The last k digits, from the last to the first; what stands past them is kept.
 pub fn spell(line: &mut [u8], at: usize, k: usize, n: u64)
     requires { ⌜ at + k ≤ length (now line) ⌝ }
     ensures { λ _. ⌜ take (at + k) (now (line .exit)) ≡ take at (now (line .entry)) ++ digits 10 k n ⌝ }
+    ensures { λ _. ⌜ drop (at + k) (now (line .exit)) ≡ drop (at + k) (now (line .entry)) ⌝ }
 {
     let mut i = k;
     let mut rest = n;

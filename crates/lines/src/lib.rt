@@ -1,5 +1,5 @@
 // The lines of the sheet, written into a lent buffer: one function per kind of line.
-// Each line stands at the front of the buffer; the answer is its length. What stands past it is left as it falls.
+// Each line stands at the front of the buffer; the answer is its length. What stands past it is kept.
 ghost use mathlib.Core.Path.{_≡_};
 ghost use mathlib.Core.List.{[], _∷_};
 ghost use Prim.Native.Nat.{_≤_};

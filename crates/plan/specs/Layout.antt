@@ -28,7 +28,7 @@ layout n t shifts = record { n = n; t = t; sections = upTo n; shift = λ j. getD
 unfoldable pub placeOf : ℕ → ℕ → ℕ → ℕ
 placeOf t j k = j * t + k
 
--- "It meets two rows: top row k, and bottom row t + ((k - p_j) mod t)." Here p_j is at most t, so k + t - p_j is no less than 0.
+-- "It meets two rows: top row k, and bottom row t + ((k - p_j) mod t)." Here p_j is below t, so k + t - p_j is no less than 0.
 unfoldable pub topRow : ℕ → ℕ
 topRow k = k
 

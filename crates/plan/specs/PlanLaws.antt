@@ -14,7 +14,7 @@ use Rattle.math.specs.Gcd.{gcdAll, gap}
 use Rattle.math.specs.GcdLaws.{gcdAll-le}
 use Rattle.math.specs.Members.{upTo}
 use Rattle.math.specs.MembersLaws.{upTo-∈, rising-upTo, length-upTo, getD-upTo, upTo-suc}
-use Rattle.plan.specs.Bounds.{sizeFits, allBelow}
+use Rattle.plan.specs.Bounds.{sizeFits, allBelow, minN, maxN, minT, maxT, maxPlaces}
 use Rattle.plan.specs.Layout.{Layout, Valid, divisor, messageCount, bottomRow, topRow, top, bottom}
 use Rattle.plan.specs.Ruler.{rulerT, rulerShifts}
 use Rattle.plan.specs.Shifts.{gaps}
@@ -30,11 +30,11 @@ use Rattle.plan.specs.RulerLaws.{ruler-length, ruler-below, ruler-fits}
 
 -- n, t and n × t within bounds
 pub record Fitting (n t : ℕ) : Type 0 where
-  pub n-least : 2 ≤ n
-  pub n-most : n ≤ 32
-  pub t-least : 1 ≤ t
-  pub t-most : t ≤ 2048
-  pub places-most : n * t ≤ 32768
+  pub n-least : minN ≤ n
+  pub n-most : n ≤ maxN
+  pub t-least : minT ≤ t
+  pub t-most : t ≤ maxT
+  pub places-most : n * t ≤ maxPlaces
 
 pub size-fitting : (n t : ℕ) → sizeFits n t ≡ true → Fitting n t
 unfolding sizeFits

@@ -4,3 +4,4 @@ pub mod Promises
 pub mod Building
 pub mod MarksOf
 pub mod Theorems
+pub mod Numbers

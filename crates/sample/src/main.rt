@@ -1,4 +1,5 @@
 // The four results of document 01's example, by the library: loose, recovered, a symbol, crossed.
+use calls::Counted;
 use libc::STDOUT_FILENO;
 use plan::Plan;
 use promises::Recovery;
@@ -32,12 +33,22 @@ fn list(l: &[u16], k: usize) {
     }
 }
 
+// The number of marked places.
+fn marked(plan: Plan, marks: &[u8; 3]) -> usize {
+    match calls::erasure_count(plan, &marks[..]) {
+        Counted::Marks(z) => z,
+        Counted::Refused(_) => 0,
+    }
+}
+
 // One recovery and its line.
 fn recovers(plan: Plan, block: &mut [u8; 21], marks: &[u8; 3]) {
     let mut witness = [0u16; 14];
     match recovery::recover(plan, &mut block[..], &marks[..], &mut witness[..]) {
         Recovery::Recovered => {
-            io::write_all(STDOUT_FILENO, b"recovered\n");
+            io::write_all(STDOUT_FILENO, b"recovered");
+            number(marked(plan, marks));
+            line_feed();
         }
         Recovery::Loose(z) => {
             io::write_all(STDOUT_FILENO, b"loose");

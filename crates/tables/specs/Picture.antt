@@ -7,6 +7,7 @@ use Prim.Native.Nat.{ℕ, _+_, _*_, _/_, _%_, _≤_, _<_}
 use lib.ListN.{length, getD}
 use Rattle.math.specs.Members.{_∈_, keep}
 use Rattle.math.specs.Sums.{xorOver}
+use Rattle.plan.specs.Bounds.{minN, maxN, minT, maxT, maxPlaces}
 use Rattle.plan.specs.Layout.{Layout, layout}
 use Rattle.code.specs.Places.{places, meets}
 use Rattle.code.specs.Codewords.{syndrome}
@@ -14,11 +15,11 @@ use Rattle.code.specs.Laws.Forest.{Erased}
 
 -- n, t and the first n of the shifts are those of a plan that is not refused
 pub record Sized (n t : ℕ) (shifts : List ℕ) : Type 0 where
-  pub n-min : 2 ≤ n
-  pub n-max : n ≤ 32
-  pub t-min : 1 ≤ t
-  pub t-max : t ≤ 2048
-  pub places-max : n * t ≤ 32768
+  pub n-min : minN ≤ n
+  pub n-max : n ≤ maxN
+  pub t-min : minT ≤ t
+  pub t-max : t ≤ maxT
+  pub places-max : n * t ≤ maxPlaces
   pub long : n ≤ length shifts
   pub below : (j : ℕ) → j < n → getD shifts j 0 < t
 

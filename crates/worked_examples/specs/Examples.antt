@@ -43,6 +43,8 @@ pub record Specimens : Type 0 where
   pub six-marked : erasures job sixMarks ≡ 0 ∷ 2 ∷ 7 ∷ 10 ∷ 16 ∷ 17 ∷ []
   pub loose : TwoOrMore (Agrees job (erasures job sixMarks) (replicate 21 0))
   pub cycle : Cycle job (erasures job sixMarks) (0 ∷ 7 ∷ 16 ∷ 2 ∷ 10 ∷ 17 ∷ [])
+  -- and it is the only one, so no other list can be shown
+  pub cycle-only : (k : List ℕ) → Cycle job (erasures job sixMarks) k → k ≡ 0 ∷ 7 ∷ 16 ∷ 2 ∷ 10 ∷ 17 ∷ []
   -- "recovered 5": symbol 0 is 5 and its mark is cleared, "03 00 00 05"
   pub five-marked : erasures job fiveMarks ≡ 2 ∷ 7 ∷ 10 ∷ 16 ∷ 17 ∷ []
   pub five-count : length (erasures job fiveMarks) ≡ 5

@@ -1,11 +1,12 @@
 -- The proof of the specimen table, row by row, in the table's order; main result: specimens.
 -- What is about one plan is computed (ProofTests); parity places are counted by parity-count, distances given by the laws on them.
 use mathlib.Core.Path.{_≡_, refl, sym, _∙_, ap, subst}
-use mathlib.Core.Logic.{_≢_}
+use mathlib.Core.Logic.{_≢_, by-cases}
 use mathlib.Core.Bool.{true, _||_}
-use mathlib.Core.List.{List, [], _∷_, map, List·Memᴰ·not-nil}
+use mathlib.Core.List.{List, [], _∷_, map, List·Memᴰ·head, List·Memᴰ·not-nil}
 use Prim.Native.Nat.{ℕ, _-_, _*_, _<_}
 use native.Mathlib.Nat.{mul-one, div-one}
+use native.Mathlib.Decide.{ℕ-discrete}
 use native.Mathlib.Omega.{arith}
 use lib.Dec.{eqb}
 use borrow.Author.Tests.{eqb-true}
@@ -28,7 +29,9 @@ use Rattle.code.specs.Laws.Forest.{Erased, Forest, above}
 use Rattle.code.specs.Laws.Basics.{∈-places}
 use Rattle.code.specs.Laws.Labels.{merge, label, componentOf, component-is}
 use Rattle.code.specs.Laws.Unique.{forest-unique}
-use Rattle.code.specs.Laws.CycleLaws.{two}
+use Rattle.code.specs.Laws.CycleLaws.{two, forest-no-cycle}
+use Rattle.code.specs.Laws.Decide.{cycle-unique}
+use Rattle.code.specs.Laws.Paths.{above-head}
 use Rattle.code.specs.Laws.MarksLaws.{erasures-erased}
 use Rattle.code.specs.Laws.Pairs.{zero-agrees}
 use Rattle.code.specs.Laws.ParityCount.{parity-count}
@@ -80,6 +83,34 @@ fives-agrees = agrees-by-test job (2 ∷ 7 ∷ 10 ∷ 16 ∷ 17 ∷ []) (set (re
 five-forest : Forest job (2 ∷ 7 ∷ 10 ∷ 16 ∷ 17 ∷ [])
 unfolding layout every closes above keep label merge top bottom
 five-forest = forest-by-test job job-valid (erased-by-marks job fiveMarks five-marked) refl
+
+-- a cycle of the six begins with place 0, since the other five are a forest
+begins-zero : (k : List ℕ) → Cycle job (0 ∷ 2 ∷ 7 ∷ 10 ∷ 16 ∷ 17 ∷ []) k → at k 0 ≡ 0
+begins-zero k cy =
+    by-cases (ℕ-discrete (at k 0) 0)
+    (λ e. e)
+    (λ ne. absurd (forest-no-cycle job job-valid (2 ∷ 7 ∷ 10 ∷ 16 ∷ 17 ∷ []) (erased-by-marks job fiveMarks five-marked) five-forest k
+    (record {
+      half = cy .half;
+      even = cy .even;
+      least = cy .least;
+      inside = λ i h. by-place (cy .inside i h) (λ z. absurd (ne (omega (arith, cy .lowest i h, z)))) (λ m. m);
+      distinct = cy .distinct;
+      share-top = cy .share-top;
+      share-bottom = cy .share-bottom;
+      close = cy .close;
+      tops-once = cy .tops-once;
+      bottoms-once = cy .bottoms-once;
+      lowest = cy .lowest;
+    })))
+
+job-cycle-only : (k : List ℕ) → Cycle job (0 ∷ 2 ∷ 7 ∷ 10 ∷ 16 ∷ 17 ∷ []) k → k ≡ 0 ∷ 7 ∷ 16 ∷ 2 ∷ 10 ∷ 17 ∷ []
+job-cycle-only k cy =
+    let er = erased-by-marks job sixMarks six-marked in
+    cycle-unique job job-valid er (List·Memᴰ·head refl) (rw (above-head (er .rising)) five-forest) cy job-cycle (begins-zero k cy) refl
+
+cycle-only : (k : List ℕ) → Cycle job (erasures job sixMarks) k → k ≡ 0 ∷ 7 ∷ 16 ∷ 2 ∷ 10 ∷ 17 ∷ []
+cycle-only k cy = job-cycle-only k (rw six-marked at cy)
 
 recovered : Single (Agrees job (erasures job fiveMarks) (set (replicate 21 0) 0 5))
 recovered = rw five-marked (single job job-valid (erased-by-marks job fiveMarks five-marked) five-forest fives-agrees)
@@ -279,6 +310,7 @@ specimens =
       six-marked = six-marked;
       loose = loose;
       cycle = cycle;
+      cycle-only = cycle-only;
       five-marked = five-marked;
       five-count = ap length five-marked;
       recovered = recovered;

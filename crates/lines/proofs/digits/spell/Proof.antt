@@ -45,7 +45,7 @@ returns c =
     let a = c .before .before .args in
     let l = c .before .loop in
     let none : l .i ≡ 0 = omega arith in
-    spelling-end (a .line .now) (a .at) (a .k) (a .n) (subst (λ i. Spelling (a .line .now) (a .at) (a .k) (a .n) i (l .rest) (l .line)) none (l .inv))
+    (spelling-end (a .line .now) (a .at) (a .k) (a .n) (subst (λ i. Spelling (a .line .now) (a .at) (a .k) (a .n) i (l .rest) (l .line)) none (l .inv)), l .inv .kept)
 
 pub spell-spec : {M : Type 1} → statement M
 spell-spec =

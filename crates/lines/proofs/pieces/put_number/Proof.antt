@@ -24,10 +24,10 @@ add-result : tie.Need-add-result
 add-result c = search needs
 
 same-length : tie.Need-same-length
-same-length c = c .before .before .spell .kept .0 ∙ length-set (c .before .before .before .before .before .before .args .line .now) (c .before .before .before .before .before .before .args .at) 32
+same-length c = c .before .before .spell .kept .0 ∙ length-set (c .before .before .before .before .before .before .args .line .now) (c .before .before .before .before .before .before .args .at) _
 
 returns : tie.Need-returns
-returns c = appends-number _ _ _ _ _ (c .before .before .before .before .width .ensures .0) (omega arith) (c .before .before .spell .ensures) (c .before .before .spell .kept .0)
+returns c = appends-number _ _ _ _ _ (c .before .before .before .before .width .ensures .0) (omega arith) (c .before .before .spell .ensures .0) (c .before .before .spell .kept .0) (c .before .before .spell .ensures .1)
 
 pub put-number-spec : {M : Type 1} → statement M
 put-number-spec =
