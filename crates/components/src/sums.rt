@@ -27,30 +27,31 @@ fn add_up(rows: usize, parent: &[u16], sum: &[u8], total: &mut [u8])
     }
 }
 
-// The first row whose sum is not 0, or the number of rows.
-fn first(rows: usize, total: &[u8]) -> usize
-    requires { ⌜ length (now total) ≡ rows ⌝ }
-    ensures { λ r. ⌜ First rows (now (total .entry)) r ⌝ }
+// The first row whose sum is not 0, or the one past the last.
+fn first(rows: usize, total: &[u8]) -> Row
+    requires { ⌜ (length (now total) ≡ rows) × (rows ≤ 4096) ⌝ }
+    ensures { λ r. ⌜ First rows (now (total .entry)) (r .0) ⌝ }
 {
     let mut r = 0;
     while r < rows {
         if total[r] != 0 {
-            return r;
+            return Row(r as u16);
         }
         r += 1;
     }
-    r
+    Row(r as u16)
 }
 
 // Row s is written at z if its parent is q. The answer: the number of rows written.
-fn note(rows: usize, parent: &[u16], q: Row, witness: &mut [u16], s: usize, z: usize) -> usize
-    requires { ⌜ Gathers rows (now parent) (q .0) (now witness) z s × (length (now parent) ≡ rows) × (length (now witness) ≡ rows) × (rows ≤ 4096) × (s < rows) ⌝ }
-    ensures { λ r. ⌜ Gathers rows (now (parent .entry)) (q .0) (now (witness .exit)) r (s + 1) ⌝ }
+fn note(rows: usize, parent: &[u16], q: Row, witness: &mut [u16], s: Row, z: usize) -> usize
+    requires { ⌜ Gathers rows (now parent) (q .0) (now witness) z (s .0) × (length (now parent) ≡ rows) × (length (now witness) ≡ rows) × (rows ≤ 4096) × (s .0 < rows) ⌝ }
+    ensures { λ r. ⌜ Gathers rows (now (parent .entry)) (q .0) (now (witness .exit)) r (s .0 + 1) ⌝ }
 {
-    if parent[s] != q.0 {
+    let i = s.0 as usize;
+    if parent[i] != q.0 {
         return z;
     }
-    witness[z] = s as u16;
+    witness[z] = s.0;
     z + 1
 }
 
@@ -62,7 +63,7 @@ fn gather(rows: usize, parent: &[u16], q: Row, witness: &mut [u16]) -> usize
     let mut z = 0;
     let mut s = 0;
     while s < rows {
-        z = note(rows, parent, q, &mut witness[..], s, z);
+        z = note(rows, parent, q, &mut witness[..], Row(s as u16), z);
         s += 1;
     }
     z
@@ -77,9 +78,9 @@ pub fn crossed(t: usize, parent: &[u16], sum: &[u8], total: &mut [u8], witness: 
     clear_bytes(&mut total[..]);
     add_up(rows, parent, sum, &mut total[..]);
     let r = first(rows, &total[..]);
-    if rows <= r {
+    if rows <= r.0 as usize {
         return Rows::Balanced;
     }
     clear_words(&mut witness[..]);
-    Rows::Crossed(gather(rows, parent, Row(r as u16), witness))
+    Rows::Crossed(gather(rows, parent, r, witness))
 }

@@ -20,20 +20,20 @@ add-up-requires c κs = (adds-none _ _ _ _ (c .before .before .before .clear-byt
 first-requires : tie.Need-first-requires
 first-requires c κs = search needs
 
+cast-if1 : tie.Need-cast-if1
+cast-if1 c = search needs
+
 same-length : tie.Need-same-length
 same-length c = search needs
 
 returns : tie.Need-returns
-returns c = shows-balanced (c .before .before .before .before .before .add-up .ensures) (c .before .first .ensures) (c .if1 .taken)
+returns c = shows-balanced (c .before .before .before .before .before .before .add-up .ensures) (c .before .before .first .ensures) (c .if1 .taken)
 
 clear-words-requires : tie.Need-clear-words-requires
 clear-words-requires c κs = search needs
 
-cast-t19 : tie.Need-cast-t19
-cast-t19 c = search needs
-
 gather-requires : tie.Need-gather-requires
-gather-requires c κs = (c .before .before .before .clear-words .ensures ∙ ap (λ n. replicate n 0) (c .before .before .before .before .before .before .before .before .before .before .before .before .before .before .before .before .before .before .before .before .pre .witness-long), c .before .before .before .before .before .before .before .before .before .before .before .before .before .before .before .before .before .before .before .before .pre .parent-long, omega (arith, c .before .before .before .before .before .before .before .before .before .before .before .before .before .before .before .before .before .before .before .before .pre .t-max))
+gather-requires c κs = (c .before .before .before .clear-words .ensures ∙ ap (λ n. replicate n 0) (c .before .before .before .before .before .before .before .before .before .before .before .before .before .before .before .before .before .before .before .before .before .pre .witness-long), c .before .before .before .before .before .before .before .before .before .before .before .before .before .before .before .before .before .before .before .before .before .pre .parent-long, omega (arith, c .before .before .before .before .before .before .before .before .before .before .before .before .before .before .before .before .before .before .before .before .before .pre .t-max))
 
 same-length-2 : tie.Need-same-length-2
 same-length-2 c = search needs
@@ -42,7 +42,7 @@ same-length-3 : tie.Need-same-length-3
 same-length-3 c = search needs
 
 returns-2 : tie.Need-returns-2
-returns-2 c = shows-crossed (c .before .before .before .before .before .before .before .before .before .before .before .before .before .add-up .ensures) (c .before .before .before .before .before .before .before .before .before .first .ensures) (c .before .before .before .before .before .before .before .before .if1 .left) (c .before .before .gather .ensures)
+returns-2 c = shows-crossed (c .before .before .before .before .before .before .before .before .before .before .before .before .before .before .add-up .ensures) (c .before .before .before .before .before .before .before .before .before .before .first .ensures) (c .before .before .before .before .before .before .before .before .if1 .left) (c .before .before .gather .ensures)
 
 pub crossed-spec : {M : Type 1} → statement M
 crossed-spec =
@@ -52,10 +52,10 @@ crossed-spec =
     clear-bytes-requires
     add-up-requires
     first-requires
+    cast-if1
     same-length
     returns
     clear-words-requires
-    cast-t19
     gather-requires
     same-length-2
     same-length-3

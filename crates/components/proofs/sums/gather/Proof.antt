@@ -16,6 +16,9 @@ abbrev μ-loop : tie.MeasureT-loop
 loop-holds : tie.Need-loop-holds Inv-loop μ-loop
 loop-holds c = (gathers-none _ _ _ _ (c .before .before .pre .0), omega arith)
 
+cast-t10 : tie.Need-cast-t10 Inv-loop μ-loop
+cast-t10 c = omega arith
+
 note-requires : tie.Need-note-requires Inv-loop μ-loop
 note-requires c κs = (c .before .before .loop .inv .0, c .before .before .before .before .before .pre .1, gathers-long (c .before .before .loop .inv .0) (c .before .before .loop .inv .1), c .before .before .before .before .before .pre .2, c .before .loop-test .taken)
 
@@ -41,6 +44,7 @@ gather-spec =
     Inv-loop
     μ-loop
     loop-holds
+    cast-t10
     note-requires
     add-s
     loop-less

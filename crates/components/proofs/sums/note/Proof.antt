@@ -4,6 +4,9 @@ use borrow.Author.Needs.{needs}
 use Rattle.components.proofs.sums.note.Statement.{statement}
 use Rattle.components.proofs.sums.note.Tie as tie
 
+cast-i : tie.Need-cast-i
+cast-i c = search needs
+
 mul-if1 : tie.Need-mul-if1
 mul-if1 c = search needs
 
@@ -11,10 +14,7 @@ shared-slice-read-if1 : tie.Need-shared-slice-read-if1
 shared-slice-read-if1 c = search needs
 
 returns : tie.Need-returns
-returns c = gathers-out (c .before .before .before .pre .0) (c .if1 .taken)
-
-cast-witness : tie.Need-cast-witness
-cast-witness c = search needs
+returns c = gathers-out (c .before .before .before .before .pre .0) (c .if1 .taken)
 
 mul-witness : tie.Need-mul-witness
 mul-witness c = search needs
@@ -29,16 +29,16 @@ same-length : tie.Need-same-length
 same-length c = search needs
 
 returns-2 : tie.Need-returns-2
-returns-2 c = gathers-in (c .before .before .before .pre .0) (c .before .before .before .pre .4) (search needs)
+returns-2 c = gathers-in (c .before .before .before .before .pre .0) (c .before .before .before .before .pre .4) (search needs)
 
 pub note-spec : {M : Type 1} → statement M
 note-spec =
     tie.close
     (tie.spec
+    cast-i
     mul-if1
     shared-slice-read-if1
     returns
-    cast-witness
     mul-witness
     slice-write-witness
     add-result
