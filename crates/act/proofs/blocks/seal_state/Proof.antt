@@ -1,0 +1,58 @@
+-- The front parts of the buffers are sealed and cleared.
+use mathlib.Core.Path.{_≡_, refl, sym, _∙_}
+use native.Mathlib.Omega.{arith}
+use Rattle.act.specs.StateLaws.{places-most, places-fit, bytes-fit, front-long}
+use Rattle.act.specs.ActLaws.{lent-whole, sealed-acts}
+use borrow.Author.Needs.{needs}
+use Rattle.act.proofs.blocks.seal_state.Statement.{statement}
+use Rattle.act.proofs.blocks.seal_state.Tie as tie
+
+mul-places : tie.Need-mul-places
+mul-places c = let p = c .before .before .before .before .before .pre in omega (arith, places-most _ (p .0 .good (p .2)))
+
+add-bytes : tie.Need-add-bytes
+add-bytes c = let p = c .before .before .before .before .before .pre in omega (arith, places-most _ (p .0 .good (p .2)))
+
+message-length-requires : tie.Need-message-length-requires
+message-length-requires c κs = let p = c .before .before .before .before .before .pre in p .0 .good (p .2)
+
+slice-relend-prefix-reseal : tie.Need-slice-relend-prefix-reseal
+slice-relend-prefix-reseal c = let p = c .before .before .before .before .before .before .pre in places-fit _ (p .0 .good (p .2)) (c .before .before .before .before .before .before .args .block .now) (p .0 .block-long)
+
+slice-aggregate-reseal : tie.Need-slice-aggregate-reseal
+slice-aggregate-reseal c = let p = c .before .before .before .before .before .before .before .pre in front-long _ (c .before .before .before .before .before .before .before .args .block .now) (places-fit _ (p .0 .good (p .2)) (c .before .before .before .before .before .before .before .args .block .now) (p .0 .block-long))
+
+reseal-requires : tie.Need-reseal-requires
+reseal-requires c κs = let p = c .before .before .before .before .before .before .before .pre in (p .0 .good (p .2), lent-whole (p .0) (p .2) .block-long, c .before .message-length .ensures)
+
+slice-relend-prefix-clear : tie.Need-slice-relend-prefix-clear
+slice-relend-prefix-clear c = let p = c .before .before .before .before .before .before .before .before .before .before .pre in bytes-fit _ (p .0 .good (p .2)) (c .before .before .before .before .before .before .before .before .before .before .args .marks .now) (p .0 .marks-long)
+
+slice-aggregate-clear : tie.Need-slice-aggregate-clear
+slice-aggregate-clear c = let p = c .before .before .before .before .before .before .before .before .before .before .before .pre in front-long _ (c .before .before .before .before .before .before .before .before .before .before .before .args .marks .now) (bytes-fit _ (p .0 .good (p .2)) (c .before .before .before .before .before .before .before .before .before .before .before .args .marks .now) (p .0 .marks-long))
+
+clear-requires : tie.Need-clear-requires
+clear-requires c κs = search needs
+
+sealed-line-requires : tie.Need-sealed-line-requires
+sealed-line-requires c κs = omega (arith, c .before .before .before .before .before .before .before .before .before .before .before .before .before .before .before .pre .1)
+
+same-length : tie.Need-same-length
+same-length c = search needs
+
+same-length-2 : tie.Need-same-length-2
+same-length-2 c = search needs
+
+same-length-3 : tie.Need-same-length-3
+same-length-3 c = c .before .before .sealed-line .kept .0
+
+returns : tie.Need-returns
+returns c =
+    let p = c .before .before .before .before .before .before .before .before .before .before .before .before .before .before .before .before .before .before .pre in
+    let e = c .before .before .sealed-line .ensures in (
+      sealed-acts (p .0) (p .2) _ _ (c .before .before .before .before .before .before .before .before .before .before .reseal .kept .1 .1 .0) (c .before .before .before .before .before .before .clear .kept .0) (c .before .before .before .before .before .before .before .before .before .before .reseal .ensures) (c .before .before .before .before .before .before .clear .ensures) (c .before .before .before .before .before .before .before .before .before .before .before .before .message-length .ensures) (e .text-stands),
+      omega (arith, e .within, e .long, p .1),
+    )
+
+pub seal-state-spec : {M : Type 1} → statement M
+seal-state-spec = tie.close (tie.spec mul-places add-bytes message-length-requires slice-relend-prefix-reseal slice-aggregate-reseal reseal-requires slice-relend-prefix-clear slice-aggregate-clear clear-requires sealed-line-requires same-length same-length-2 same-length-3 returns)

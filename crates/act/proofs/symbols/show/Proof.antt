@@ -1,0 +1,29 @@
+-- The symbol at the place is written.
+use mathlib.Core.Path.{_≡_, refl, sym, _∙_}
+use native.Mathlib.Omega.{arith}
+use Rattle.act.specs.StateLaws.{show-inside, places-most}
+use Rattle.act.specs.ActLaws.{shown}
+use Rattle.act.specs.Acts.{stateOf}
+use borrow.Author.Needs.{needs}
+use Rattle.act.proofs.symbols.show.Statement.{statement}
+use Rattle.act.proofs.symbols.show.Tie as tie
+
+shared-slice-read-symbol-line : tie.Need-shared-slice-read-symbol-line
+unfolding stateOf
+shared-slice-read-symbol-line c = let k = c .before .before .before .before .pre .1 .1 .0 in let r = show-inside _ _ (c .before .before .before .before .pre .1 .1 .1) in omega (arith, r .1, places-most _ (k .good (r .0)), k .block-long)
+
+symbol-line-requires : tie.Need-symbol-line-requires
+symbol-line-requires c κs = search needs
+
+same-length : tie.Need-same-length
+same-length c = search needs
+
+returns : tie.Need-returns
+unfolding stateOf
+returns c =
+    let r = show-inside _ _ (c .before .before .before .before .before .before .before .pre .1 .1 .1) in
+    let e = c .before .before .symbol-line .ensures in
+    (λ m k. shown k (r .0) _ (r .1) (e .text-stands), omega (arith, e .within, e .long, c .before .before .before .before .before .before .before .pre .0))
+
+pub show-spec : {M : Type 1} → statement M
+show-spec = tie.close (tie.spec shared-slice-read-symbol-line symbol-line-requires same-length returns)

@@ -1,0 +1,252 @@
+-- How each command keeps its meaning: what its function did to the buffers, said of the state.
+-- Main results: blank-good, made-acts, shifted, symbol-set, one-marked, run-marked, shown, figured, sealed, recovered; on-recovered, on-loose, on-crossed.
+use mathlib.Core.Path.{_≡_, refl, sym, _∙_, ap, subst}
+use mathlib.Core.Logic.{by-cases}
+use mathlib.Core.Bool.{true}
+use mathlib.Core.List.{List, [], _∷_, _++_, map}
+use Prim.Native.Nat.{ℕ, zero, suc, _+_, _-_, _*_, _/_, _≤_, _<_}
+use native.Mathlib.Decide.{ℕ-discrete}
+use native.Mathlib.Omega.{arith}
+use lib.ListN.{length, getD, set, take, drop, replicate, length-set, length-take, length-replicate, length-append, List·getD-eq-default}
+use lib.Seq.{length-front, take-set-lt, getD-set-same, getD-set-other, getD-take, length-take-le, take-at}
+use Rattle.math.specs.MembersLaws.{length-upTo}
+use Rattle.plan.specs.Bounds.{sizeFits}
+use Rattle.plan.specs.Shifts.{padded}
+use Rattle.plan.specs.Layout.{Layout, layout, divisor, messageCount}
+use Rattle.plan.specs.Plans as plans
+use Rattle.plan.specs.Plans.{layoutOf, verdictOf, made, straightOf, powersOf, rulerOf}
+use Rattle.plan.specs.PlanLaws.{Fitting, GoodPlan, good-bounds, good-valid, bounds-good, size-fitting, straight-good, powers-good, ruler-good}
+use Rattle.plan.specs.declared.Plan.{Plan}
+use Rattle.plan.specs.declared.Made.{Made}
+use Rattle.plan.specs.declared.Verdict.the-variants as verdict
+use Rattle.code.specs.Codewords.{at}
+use Rattle.code.specs.Marks.{markBytes, NoSpare, erasures}
+use Rattle.code.specs.Messages.{Carries}
+use Rattle.code.specs.Laws.ParityCount.{messages, message-lists, length-messages}
+use Rattle.code.specs.Figures as code
+use Rattle.lines.specs.Lines.{line, symbolWord, figuresWord, sealedWord}
+use Rattle.commands.specs.declared.Command.the-variants.{NewPlan, SetShift, SetSymbol, MarkOne, MarkRun, Recover, Seal, Show, Figures, Straight, Powers, Ruler}
+use Rattle.state.specs.State.{State, fresh, Marked, withPlan, withBlock}
+use Rattle.state.specs.Refusals.{refusalOf}
+use Rattle.state.specs.MarkedLaws.{marked-no-spare, no-marks-no-spare}
+use Rattle.act.specs.Meaning.{Means, Marking, Figuring, Sealing, Recovering}
+use Rattle.act.specs.Acts.{stateOf, Kept, Acts, blockLength, marksLength}
+use Rattle.act.specs.Wholes.{Whole, Recovered, whole}
+use Rattle.act.specs.StateLaws.{number-good, holding, marked-take, places-most, bytes-most, part-back, part-long, cleared-front}
+use Rattle.act.specs.declared.Held.{Held}
+
+-- ---- new plans
+
+zeros-more : (n k : ℕ) → n ≤ k → replicate {A = ℕ} k 0 ≡ replicate n 0 ++ replicate (k - n) 0
+zeros-more zero k h = let e : k - 0 ≡ k = omega arith in rw e
+zeros-more (suc n) zero h = absurd (omega arith)
+zeros-more (suc n) (suc k) h = let e : suc k - suc n ≡ k - n = omega arith in rw e (ap (λ l. 0 ∷ l) (zeros-more n k (omega arith)))
+
+zeros-at : (k i : ℕ) → _≡_ {A = ℕ} (getD (replicate k 0) i 0) 0
+zeros-at zero i = refl
+zeros-at (suc k) zero = refl
+zeros-at (suc k) (suc i) = zeros-at k i
+
+-- the array of zeros is that of n shifts 0
+pub blank-good : (n t : ℕ) (s : List ℕ) → s ≡ replicate 32 0 → sizeFits n t ≡ true →
+    (_≡_ {A = Plan} (record { n = n; t = t; shifts = s }) (made n t (replicate n 0) .plan)) × (verdictOf (record { n = n; t = t; shifts = s }) ≡ verdict.Good)
+unfolding made plans.plan padded
+blank-good n t s f e =
+    let size = size-fitting n t e in (
+      ap (λ (l : List ℕ). record { n = n; t = t; shifts = l }) (f ∙ zeros-more n 32 (omega arith) ∙ ap (λ x. replicate n 0 ++ replicate (32 - x) 0) (sym (length-replicate n 0))),
+      bounds-good (record { n = n; t = t; shifts = s }) (record { size = size; below = λ j h. rw (f, zeros-at 32 j) (omega (arith, size)) }),
+    )
+
+-- the plan beside a good answer is begun
+pub new-acts : {n t : ℕ} (h : Held) {v m v' m' : List ℕ} {p : Plan} {r : Held} → p ≡ made n t (replicate n 0) .plan →
+    (stateOf r v' m' ≡ fresh p) × Kept r v' m' → Acts (NewPlan n t) h v m [] r v' m'
+new-acts h e b = record { means = unfold Means in (b .0 ∙ ap fresh e, refl); kept = b .1 }
+
+pub straight-acts : {n t : ℕ} (h : Held) {v m v' m' : List ℕ} {a : Made} {r : Held} → a ≡ straightOf n t →
+    (stateOf r v' m' ≡ fresh (a .plan)) × Kept r v' m' → Acts (Straight n t) h v m [] r v' m'
+straight-acts h e b = record { means = unfold Means in (b .0 ∙ ap (λ (x : Made). fresh (x .plan)) e, refl); kept = b .1 }
+
+pub powers-acts : {n t q : ℕ} (h : Held) {v m v' m' : List ℕ} {a : Made} {r : Held} → a ≡ powersOf n t q →
+    (stateOf r v' m' ≡ fresh (a .plan)) × Kept r v' m' → Acts (Powers n t q) h v m [] r v' m'
+powers-acts h e b = record { means = unfold Means in (b .0 ∙ ap (λ (x : Made). fresh (x .plan)) e, refl); kept = b .1 }
+
+pub ruler-acts : {n : ℕ} (h : Held) {v m v' m' : List ℕ} {a : Made} {r : Held} → a ≡ rulerOf n →
+    (stateOf r v' m' ≡ fresh (a .plan)) × Kept r v' m' → Acts (Ruler n) h v m [] r v' m'
+ruler-acts h e b = record { means = unfold Means in (b .0 ∙ ap (λ (x : Made). fresh (x .plan)) e, refl); kept = b .1 }
+
+-- a family that is not refused makes a good plan
+module _ (s : State) where
+  pub straight-plan : (n t : ℕ) → refusalOf s (Straight n t) ≡ 0 → {a : Made} → a ≡ straightOf n t → verdictOf (a .plan) ≡ verdict.Good
+  unfolding refusalOf
+  straight-plan n t e f = subst (λ (x : Made). verdictOf (x .plan) ≡ verdict.Good) (sym f) (straight-good n t (number-good _ e))
+
+  pub powers-plan : (n t q : ℕ) → refusalOf s (Powers n t q) ≡ 0 → {a : Made} → a ≡ powersOf n t q → verdictOf (a .plan) ≡ verdict.Good
+  unfolding refusalOf
+  powers-plan n t q e f = subst (λ (x : Made). verdictOf (x .plan) ≡ verdict.Good) (sym f) (powers-good n t q (number-good _ e))
+
+  pub ruler-plan : (n : ℕ) → refusalOf s (Ruler n) ≡ 0 → {a : Made} → a ≡ rulerOf n → verdictOf (a .plan) ≡ verdict.Good
+  unfolding refusalOf
+  ruler-plan n e f = subst (λ (x : Made). verdictOf (x .plan) ≡ verdict.Good) (sym f) (ruler-good n (number-good _ e))
+
+-- ---- shifts
+
+pub shifted : (h : Held) (j p : ℕ) → h .planned ≡ true → j < h .plan .n → p < h .plan .t → verdictOf (h .plan) ≡ verdict.Good →
+    length (h .plan .shifts) ≡ 32 → (v m : List ℕ) → Kept h v m →
+    Acts (SetShift j p) h v m [] (holding (record { n = h .plan .n; t = h .plan .t; shifts = set (h .plan .shifts) j p })) v m
+unfolding Means stateOf withPlan markBytes layoutOf layout NoSpare
+shifted h j p planned a b g l v m k =
+    record {
+      means = (refl, refl);
+      kept = record {
+        good = λ _. bounds-good _ (record { size = size; below = below });
+        spare = λ _. k .spare planned;
+        block-long = k .block-long;
+        marks-long = k .marks-long;
+      };
+    }
+  where
+    size : Fitting (h .plan .n) (h .plan .t)
+    size = good-bounds (h .plan) g .size
+
+    below : (i : ℕ) → i < h .plan .n → getD (set (h .plan .shifts) j p) i 0 < h .plan .t
+    below i less =
+        by-cases (ℕ-discrete i j)
+        (λ e. rw (e, getD-set-same (h .plan .shifts) j p 0 (omega (arith, good-bounds (h .plan) g .size))) b)
+        (λ n. rw (getD-set-other (h .plan .shifts) j i p 0 n) (good-bounds (h .plan) g .below i less))
+
+-- ---- symbols and marks
+
+module _ {h : Held} {v m : List ℕ} (k : Kept h v m) (planned : h .planned ≡ true) where
+  marking : {m' : List ℕ} {c n b : ℕ} (v' : List ℕ) → length v' ≡ blockLength → Marked m c n b m' → c + n ≤ h .plan .n * h .plan .t →
+      Marking (stateOf h v m) (stateOf h v' m') (take (h .plan .n * h .plan .t) v') c n b × Kept h v' m'
+  unfolding stateOf withBlock markBytes layoutOf layout
+  marking {m'} {c} {n} {b} v' e d less =
+      let bits : c + n ≤ 8 * ((h .plan .n * h .plan .t + 7) / 8) = omega arith in
+      let part = marked-take ((h .plan .n * h .plan .t + 7) / 8) d bits in (
+        record { marks = take (markBytes (layoutOf (h .plan))) m'; marked = part; state = rw planned },
+        record {
+          good = k .good;
+          spare = λ _. marked-no-spare (layoutOf (h .plan)) (k .spare planned) part less;
+          block-long = e;
+          marks-long = d .long ∙ k .marks-long;
+        },
+      )
+
+  pub symbol-set : (c x : ℕ) → c < h .plan .n * h .plan .t → {v' m' : List ℕ} → v' ≡ set v c x → Marked m c 1 0 m' → Acts (SetSymbol c x) h v m [] h v' m'
+  unfolding Means stateOf
+  symbol-set c x less {v'} {m'} e d =
+      let r = marking v' (ap length e ∙ length-set v c x ∙ k .block-long) d (omega arith) in
+      let f : take (h .plan .n * h .plan .t) v' ≡ set (take (h .plan .n * h .plan .t) v) c x =
+      ap (take (h .plan .n * h .plan .t)) e ∙ take-set-lt (h .plan .n * h .plan .t) v c x less in
+      record { means = (subst (λ l. Marking (stateOf h v m) (stateOf h v' m') l c 1 0) f (r .0), refl); kept = r .1 }
+
+  pub one-marked : (c : ℕ) → c < h .plan .n * h .plan .t → {m' : List ℕ} → Marked m c 1 1 m' → Acts (MarkOne c) h v m [] h v m'
+  unfolding Means stateOf
+  one-marked c less d =
+      let r = marking v (k .block-long) d (omega arith) in
+      record { means = (r .0, refl); kept = r .1 }
+
+  pub run-marked : (c n : ℕ) → c + n ≤ h .plan .n * h .plan .t → {m' : List ℕ} → Marked m c n 1 m' → Acts (MarkRun c n) h v m [] h v m'
+  unfolding Means stateOf
+  run-marked c n less d =
+      let r = marking v (k .block-long) d less in
+      record { means = (r .0, refl); kept = r .1 }
+
+  pub shown : (c : ℕ) → c < h .plan .n * h .plan .t → {text : List ℕ} → text ≡ line symbolWord (c ∷ getD v c 0 ∷ []) → Acts (Show c) h v m text h v m
+  unfolding Means stateOf
+  shown c less e =
+      record {
+        means = (refl, e ∙ ap (λ x. line symbolWord (c ∷ x ∷ [])) (sym (getD-take (h .plan .n * h .plan .t) v c 0 less)));
+        kept = k;
+      }
+
+pub figured : {h : Held} {v m : List ℕ} → Kept h v m → (a b c d : ℕ) → code.Figures (layoutOf (h .plan)) a b c d →
+    {text : List ℕ} → text ≡ line figuresWord (a ∷ b ∷ c ∷ d ∷ []) → Acts Figures h v m text h v m
+figured {h} {v} {m} k a b c d f e =
+    record {
+      means = unfold Means stateOf in record { parity = a; pair = b; neighbour = c; distance = d; figures = f; state = refl; says = e };
+      kept = k;
+    }
+
+-- ---- the whole block
+
+-- the number of message places
+pub message-number : (p : Plan) → verdictOf p ≡ verdict.Good → length (messages (layoutOf p)) ≡ messageCount (layoutOf p)
+unfolding messageCount
+message-number p g = length-messages (layoutOf p) (good-valid p g) some ∙ ap (λ x. x * layoutOf p .t - (2 * layoutOf p .t - divisor (layoutOf p))) count
+  where
+    count : length (layoutOf p .sections) ≡ layoutOf p .n
+    count = unfold layoutOf layout in length-upTo (p .n)
+
+    some : 0 < length (layoutOf p .sections)
+    some = unfold layoutOf layout in rw (length-upTo (p .n)) (omega (arith, good-bounds p g .size))
+
+-- the state's own parts, lent
+pub lent-whole : {h : Held} {v m : List ℕ} → Kept h v m → h .planned ≡ true →
+    Whole (h .plan) (take (h .plan .n * h .plan .t) v) (take ((h .plan .n * h .plan .t + 7) / 8) m)
+unfolding markBytes layoutOf layout NoSpare
+lent-whole {h} {v} {m} k planned =
+    let g = k .good planned in
+    record {
+      good = g;
+      block-long = length-take-le _ v (omega (arith, places-most (h .plan) g, k .block-long));
+      marks-long = length-take-le _ m (omega (arith, bytes-most (h .plan) g, k .marks-long));
+      spare = k .spare planned;
+    }
+
+-- the state of parts that came back to the front of the buffers
+module _ {h : Held} {v m : List ℕ} (k : Kept h v m) (planned : h .planned ≡ true) (a b : List ℕ)
+    (a-long : length a ≡ length (take (h .plan .n * h .plan .t) v)) (b-long : length b ≡ length (take ((h .plan .n * h .plan .t + 7) / 8) m)) where
+  back-state : stateOf h (a ++ drop (h .plan .n * h .plan .t) v) (b ++ drop ((h .plan .n * h .plan .t + 7) / 8) m) ≡ whole (h .plan) a b
+  unfolding stateOf markBytes layoutOf layout
+  back-state =
+      let g = k .good planned in
+      rw (planned, part-back (h .plan .n * h .plan .t) v a (omega (arith, places-most (h .plan) g, k .block-long)) a-long, part-back ((h .plan .n * h .plan .t + 7) / 8) m b (omega (arith, bytes-most (h .plan) g, k .marks-long)) b-long)
+
+  back-kept : NoSpare (layoutOf (h .plan)) b → Kept h (a ++ drop (h .plan .n * h .plan .t) v) (b ++ drop ((h .plan .n * h .plan .t + 7) / 8) m)
+  unfolding markBytes layoutOf layout NoSpare
+  back-kept spare =
+      let g = k .good planned in
+      record {
+        good = k .good;
+        spare = λ _. rw (part-back ((h .plan .n * h .plan .t + 7) / 8) m b (omega (arith, bytes-most (h .plan) g, k .marks-long)) b-long) spare;
+        block-long = length-front v a (h .plan .n * h .plan .t) a-long ∙ k .block-long;
+        marks-long = length-front m b ((h .plan .n * h .plan .t + 7) / 8) b-long ∙ k .marks-long;
+      }
+
+  before-state : stateOf h v m ≡ whole (h .plan) (take (h .plan .n * h .plan .t) v) (take ((h .plan .n * h .plan .t + 7) / 8) m)
+  unfolding stateOf markBytes layoutOf layout
+  before-state = rw planned
+
+  pub recovered-acts : {text : List ℕ} → Recovered (h .plan) (take (h .plan .n * h .plan .t) v) (take ((h .plan .n * h .plan .t + 7) / 8) m) text a b →
+      Acts Recover h v m text h (a ++ drop (h .plan .n * h .plan .t) v) (b ++ drop ((h .plan .n * h .plan .t + 7) / 8) m)
+  recovered-acts {text} r =
+      record {
+        means = unfold Means in
+            subst (λ s. Recovering s (stateOf h (a ++ drop (h .plan .n * h .plan .t) v) (b ++ drop ((h .plan .n * h .plan .t + 7) / 8) m)) text) (sym before-state)
+            (subst (λ s. Recovering (whole (h .plan) (take (h .plan .n * h .plan .t) v) (take ((h .plan .n * h .plan .t + 7) / 8) m)) s text) (sym back-state) (r .means));
+        kept = back-kept (r .spare);
+      }
+
+  pub sealed-acts : Carries (layoutOf (h .plan)) a (map (at (take (h .plan .n * h .plan .t) v)) (messages (layoutOf (h .plan)))) →
+      b ≡ replicate (length (take ((h .plan .n * h .plan .t + 7) / 8) m)) 0 → {count : ℕ} {text : List ℕ} → count ≡ messageCount (layoutOf (h .plan)) →
+      text ≡ line sealedWord (count ∷ []) →
+      Acts Seal h v m text h (a ++ drop (h .plan .n * h .plan .t) v) (b ++ drop ((h .plan .n * h .plan .t + 7) / 8) m)
+  sealed-acts carries clear {count} {text} e f =
+      let g = k .good planned in
+      let ok = good-valid (h .plan) g in
+      record {
+        means = unfold Means stateOf in record {
+          places = messages (layoutOf (h .plan));
+          message-places = message-lists (layoutOf (h .plan)) ok;
+          block = a;
+          carries = carries;
+          state = back-state ∙ after;
+          says = f ∙ ap (λ x. line sealedWord (x ∷ [])) (e ∙ sym (message-number (h .plan) g));
+        };
+        kept = back-kept (rw clear (no-marks-no-spare (layoutOf (h .plan)) (length (take ((h .plan .n * h .plan .t + 7) / 8) m))));
+      }
+    where
+      after : whole (h .plan) a b ≡ withBlock (stateOf h v m) a (replicate (markBytes (layoutOf (h .plan))) 0)
+      after = unfold withBlock stateOf markBytes layoutOf layout in
+          ap (whole (h .plan) a) (clear ∙ ap (λ x. replicate x 0) (length-take-le ((h .plan .n * h .plan .t + 7) / 8) m (omega (arith, bytes-most (h .plan) (k .good planned), k .marks-long))))

@@ -1,0 +1,42 @@
+-- The state of a job over lent buffers, and what it is to perform a command on them.
+-- Main definitions: stateOf, Kept, Acts.
+use mathlib.Core.Path.{_≡_}
+use mathlib.Core.Bool.{true}
+use mathlib.Core.List.{List}
+use Prim.Native.Nat.{ℕ, _*_}
+use lib.ListN.{length, take}
+use Rattle.plan.specs.Plans.{layoutOf, verdictOf}
+use Rattle.plan.specs.declared.Verdict.the-variants as verdict
+use Rattle.code.specs.Marks.{markBytes, NoSpare}
+use Rattle.commands.specs.declared.Command.{Command}
+use Rattle.state.specs.State.{State}
+use Rattle.act.specs.Meaning.{Means}
+use Rattle.act.specs.declared.Held.{Held}
+
+-- the buffers hold the largest block and its marks
+abbrev pub blockLength : ℕ
+blockLength = 32768
+
+abbrev pub marksLength : ℕ
+marksLength = 4096
+
+-- the state: its block is the first n × t of the block buffer, its marks the first bytes of the mark buffer
+unfoldable pub stateOf : Held → List ℕ → List ℕ → State
+stateOf h v m = record {
+  planned = h .planned;
+  plan = h .plan;
+  block = take (h .plan .n * h .plan .t) v;
+  marks = take (markBytes (layoutOf (h .plan))) m;
+}
+
+-- what every command keeps: a plan that is held is good, its marks have no spare bit, the buffers have their lengths
+pub record Kept (h : Held) (v m : List ℕ) : Type 0 where
+  pub good : h .planned ≡ true → verdictOf (h .plan) ≡ verdict.Good
+  pub spare : h .planned ≡ true → NoSpare (layoutOf (h .plan)) (take (markBytes (layoutOf (h .plan))) m)
+  pub block-long : length v ≡ blockLength
+  pub marks-long : length m ≡ marksLength
+
+-- a command that is not refused was performed: its meaning holds of the state before and after and of its text
+pub record Acts (c : Command) (h : Held) (v m text : List ℕ) (h' : Held) (v' m' : List ℕ) : Type 0 where
+  pub means : Means c (stateOf h v m) (stateOf h' v' m') text
+  pub kept : Kept h' v' m'

@@ -1,0 +1,143 @@
+// Commands on the whole block: 06, 07, 09.
+ghost use mathlib.Core.Path.{_≡_};
+ghost use mathlib.Core.Bool.{true};
+ghost use mathlib.Core.List.{List, map};
+ghost use Prim.Native.Nat.{ℕ, _*_, _≤_};
+ghost use lib.ListN.{length, take};
+ghost use Rattle.plan.specs.Layout.{messageCount};
+ghost use Rattle.plan.specs.Plans.{layoutOf, verdictOf};
+ghost use Rattle.plan.specs.declared.Plan.{Plan as PlanT};
+ghost use Rattle.plan.specs.declared.Verdict.the-variants as verdict;
+ghost use Rattle.code.specs.Codewords.{at};
+ghost use Rattle.code.specs.Marks.{markBytes, NoSpare, erasures};
+ghost use Rattle.code.specs.Messages.{Carries};
+ghost use Rattle.code.specs.Laws.ParityCount.{messages};
+ghost use Rattle.lines.specs.Lines.{lineLength};
+ghost use Rattle.commands.specs.declared.Command.the-variants as commands;
+ghost use Rattle.state.specs.Refusals.{refusalOf};
+ghost use Rattle.act.specs.Acts.{stateOf, Kept, Acts};
+ghost use Rattle.act.specs.Wholes.{Whole, Recovered};
+use crate::Held;
+use calls::Counted;
+use calls::erasure_count;
+use figures::Answer;
+use figures::figures;
+use lines::crossed_line;
+use lines::figures_line;
+use lines::loose_line;
+use lines::recovered_line;
+use lines::sealed_line;
+use plan::Count;
+use plan::Plan;
+use promises::Recovery;
+use recovery::recover;
+use runs::gather;
+use runs::runs;
+use sealing::encode;
+use state::buffers::clear;
+
+pub fn tell_figures(held: Held, line: &mut [u8]) -> usize
+    requires { ⌜ (length (now line) ≡ lineLength) × (verdictOf (held .plan) ≡ verdict.Good) ⌝ }
+    ensures { λ r. ⌜ ((v m : List ℕ) → Kept held v m → Acts commands.Figures held v m (take r (now (line .exit))) held v m) × (r ≤ lineLength) ⌝ }
+{
+    match figures(held.plan) {
+        Answer::Are(four) => figures_line(
+            line,
+            four.parity,
+            four.pair,
+            four.neighbour,
+            four.distance,
+        ),
+        Answer::Not(_) => 0,
+    }
+}
+
+// The number of message places.
+fn message_length(plan: Plan) -> usize
+    requires { ⌜ verdictOf plan ≡ verdict.Good ⌝ }
+    ensures { λ r. ⌜ r ≡ messageCount (layoutOf plan) ⌝ }
+{
+    match plan.message_count() {
+        Count::Is(k) => k,
+        Count::Not(_) => 0,
+    }
+}
+
+// The codeword that carries what stands at the message places. The block has the plan's length.
+fn reseal(plan: Plan, count: usize, block: &mut [u8])
+    requires { ⌜ (verdictOf plan ≡ verdict.Good) × (length (now block) ≡ plan .n * plan .t) × (count ≡ messageCount (layoutOf plan)) ⌝ }
+    ensures { λ _. ⌜ Carries (layoutOf plan) (now (block .exit)) (map (at (now (block .entry))) (messages (layoutOf plan))) ⌝ }
+{
+    let mut message = [0u8; 32768];
+    let n = plan.n;
+    let t = plan.t;
+    let s = plan.shifts;
+    let r = runs(n, t, &s[..]);
+    gather(n, t, &r[..], &block[..], &mut message[..count]);
+    encode(plan, &message[..count], &mut block[..]);
+}
+
+pub fn seal_state(held: Held, block: &mut [u8], marks: &mut [u8], line: &mut [u8]) -> usize
+    requires { ⌜ Kept held (now block) (now marks) × (length (now line) ≡ lineLength) × (held .planned ≡ true) ⌝ }
+    ensures { λ r. ⌜ Acts commands.Seal held (now (block .entry)) (now (marks .entry)) (take r (now (line .exit))) held (now (block .exit)) (now (marks .exit)) × (r ≤ lineLength) ⌝ }
+{
+    let plan = held.plan;
+    let places = plan.n * plan.t;
+    let bytes = (places + 7) / 8;
+    let count = message_length(plan);
+    reseal(plan, count, &mut block[..places]);
+    clear(&mut marks[..bytes]);
+    sealed_line(line, count)
+}
+
+// The number of marked places.
+fn marked(plan: Plan, marks: &[u8]) -> usize
+    requires { ⌜ (verdictOf plan ≡ verdict.Good) × (length (now marks) ≡ markBytes (layoutOf plan)) × NoSpare (layoutOf plan) (now marks) ⌝ }
+    ensures { λ r. ⌜ r ≡ length (erasures (layoutOf plan) (now (marks .entry))) ⌝ }
+{
+    match erasure_count(plan, marks) {
+        Counted::Marks(k) => k,
+        Counted::Refused(_) => 0,
+    }
+}
+
+// Recovery on buffers of the plan's lengths.
+fn recover_whole(
+    plan: Plan,
+    block: &mut [u8],
+    marks: &mut [u8],
+    line: &mut [u8],
+    witness: &mut [u16],
+) -> usize
+    requires { ⌜ Whole plan (now block) (now marks) × (length (now line) ≡ lineLength) × (length (now witness) ≡ 2 * plan .t) ⌝ }
+    ensures { λ r. ⌜ Recovered plan (now (block .entry)) (now (marks .entry)) (take r (now (line .exit))) (now (block .exit)) (now (marks .exit)) × (r ≤ lineLength) ⌝ }
+{
+    let count = marked(plan, &marks[..]);
+    match recover(plan, &mut block[..], &marks[..], &mut witness[..]) {
+        Recovery::Recovered => {
+            clear(&mut marks[..]);
+            recovered_line(line, count)
+        }
+        Recovery::Crossed(z) => crossed_line(line, z, &witness[..]),
+        Recovery::Loose(z) => loose_line(line, z, &witness[..]),
+        Recovery::Refused(_) => 0,
+    }
+}
+
+pub fn recover_state(held: Held, block: &mut [u8], marks: &mut [u8], line: &mut [u8]) -> usize
+    requires { ⌜ Kept held (now block) (now marks) × (length (now line) ≡ lineLength) × (held .planned ≡ true) ⌝ }
+    ensures { λ r. ⌜ Acts commands.Recover held (now (block .entry)) (now (marks .entry)) (take r (now (line .exit))) held (now (block .exit)) (now (marks .exit)) × (r ≤ lineLength) ⌝ }
+{
+    let plan = held.plan;
+    let places = plan.n * plan.t;
+    let bytes = (places + 7) / 8;
+    let mut witness = [0u16; 4096];
+    let rows = 2 * plan.t;
+    recover_whole(
+        plan,
+        &mut block[..places],
+        &mut marks[..bytes],
+        line,
+        &mut witness[..rows],
+    )
+}

@@ -1,0 +1,33 @@
+// Single commands of a job on the lent state, a function for each. The command is not refused.
+ghost use mathlib.Core.Path.{_≡_};
+ghost use Rattle.act.specs.Acts.{blockLength, marksLength};
+use plan::Plan;
+
+pub mod blocks;
+pub mod plans;
+pub mod symbols;
+
+// The plan of a job, or none.
+pub struct Held {
+    pub planned: bool,
+    pub plan: Plan,
+}
+
+// The lengths of the buffers: the largest block, and its marks.
+pub const BLOCK: usize = 32768;
+
+pub const MARKS: usize = 4096;
+
+pub fn block_length() -> usize
+    ensures { λ r. ⌜ r ≡ blockLength ⌝ }
+    ensures { λ r. do ⌜ r ≡ (← ⟦BLOCK⟧ .entry) ⌝ }
+{
+    BLOCK
+}
+
+pub fn marks_length() -> usize
+    ensures { λ r. ⌜ r ≡ marksLength ⌝ }
+    ensures { λ r. do ⌜ r ≡ (← ⟦MARKS⟧ .entry) ⌝ }
+{
+    MARKS
+}

@@ -1,0 +1,48 @@
+-- A command that is known: what does not refuse it, and that it was performed.
+-- Main results: refusal-is, new-any, straight-any, powers-any, ruler-any, shift-any; quiet-acts, told-acts.
+use mathlib.Core.Path.{_≡_, refl, sym, subst}
+use mathlib.Core.List.{List, []}
+use Prim.Native.Nat.{ℕ, _≤_}
+use native.Mathlib.Omega.{arith}
+use lib.ListN.{take}
+use Rattle.commands.specs.declared.Command.{Command}
+use Rattle.commands.specs.declared.Command.the-variants.{NewPlan, SetShift, Straight, Powers, Ruler}
+use Rattle.lines.specs.Lines.{lineLength}
+use Rattle.state.specs.State.{State}
+use Rattle.state.specs.Refusals.{refusalOf}
+use Rattle.act.specs.Acts.{stateOf, Acts}
+use Rattle.act.specs.declared.Held.{Held}
+
+pub refusal-is : (s : State) {c k : Command} → c ≡ k → refusalOf s c ≡ 0 → refusalOf s k ≡ 0
+refusal-is s e r = subst (λ (x : Command). refusalOf s x ≡ 0) e r
+
+-- commands that make a plan do not depend on the state
+module _ (s x : State) where
+  pub new-any : (n t : ℕ) → refusalOf s (NewPlan n t) ≡ 0 → refusalOf x (NewPlan n t) ≡ 0
+  unfolding refusalOf
+  new-any n t e = e
+
+  pub straight-any : (n t : ℕ) → refusalOf s (Straight n t) ≡ 0 → refusalOf x (Straight n t) ≡ 0
+  unfolding refusalOf
+  straight-any n t e = e
+
+  pub powers-any : (n t q : ℕ) → refusalOf s (Powers n t q) ≡ 0 → refusalOf x (Powers n t q) ≡ 0
+  unfolding refusalOf
+  powers-any n t q e = e
+
+  pub ruler-any : (n : ℕ) → refusalOf s (Ruler n) ≡ 0 → refusalOf x (Ruler n) ≡ 0
+  unfolding refusalOf
+  ruler-any n e = e
+
+-- a shift depends on the plan alone
+pub shift-any : (h : Held) (v m v' m' : List ℕ) (j p : ℕ) → refusalOf (stateOf h v m) (SetShift j p) ≡ 0 → refusalOf (stateOf h v' m') (SetShift j p) ≡ 0
+unfolding refusalOf stateOf
+shift-any h v m v' m' j p e = e
+
+pub quiet-acts : {c k : Command} {h g a : Held} {v m v' m' : List ℕ} {n : ℕ} (l : List ℕ) → c ≡ k → Acts k h v m [] g v' m' → (a ≡ g) × (n ≡ 0) →
+    Acts c h v m (take n l) a v' m' × (n ≤ lineLength)
+quiet-acts {c} {k} {h} {g} {a} {v} {m} {v'} {m'} {n} l e r q = (rw (e, q .0, q .1) r, omega (arith, q .1))
+
+pub told-acts : {c k : Command} {h a : Held} {v m v' m' : List ℕ} {n j : ℕ} (l : List ℕ) → c ≡ k → Acts k h v m (take j l) h v' m' × (j ≤ lineLength) → (a ≡ h) × (n ≡ j) →
+    Acts c h v m (take n l) a v' m' × (n ≤ lineLength)
+told-acts {c} {k} {h} {a} {v} {m} {v'} {m'} {n} {j} l e r q = (rw (e, q .0, q .1) (r .0), omega (arith, q .1, r .1))

@@ -1,0 +1,29 @@
+-- The sheet of a whole job: the chain of its commands' lines.
+use mathlib.Core.Path.{_≡_}
+use mathlib.Core.Logic.{_≢_}
+use mathlib.Core.List.{List, [], _∷_, _++_}
+use Prim.Native.Nat.{ℕ, _+_}
+use lib.ListN.{drop, getD}
+use Rattle.commands.specs.Commands.{sizeOf, parsed}
+use Rattle.lines.specs.Lines.{line, refusedWord, endWord}
+use Rattle.state.specs.State.{State}
+use Rattle.state.specs.Refusals.{refusalOf}
+use Rattle.act.specs.Meaning.{Means}
+use Rattle.commands.specs.declared.Command.{Command}
+use Rattle.commands.specs.declared.Parsed.the-variants.{Whole, Unknown, Short}
+
+-- "`refused`, number, offset of the command's first byte"
+unfoldable pub refusedLine : ℕ → ℕ → List ℕ
+refusedLine number offset = line refusedWord (number ∷ offset ∷ [])
+
+-- the sheet of the bytes from an offset on, from a state
+pub data Sheet : ℕ → State → List ℕ → List ℕ → Type 0 where
+  -- "`end` closes a job that ran out at a command's boundary"
+  ends : {o : ℕ} {s : State} → Sheet o s [] (line endWord [])
+  -- "7, 8, 9, then the others"; "After `refused` the job stops"
+  unknown : {o : ℕ} {s : State} {b : List ℕ} → parsed b ≡ Unknown → Sheet o s b (refusedLine 7 o)
+  short : {o : ℕ} {s : State} {b : List ℕ} → parsed b ≡ Short → Sheet o s b (refusedLine 8 o)
+  refused : {o : ℕ} {s : State} {b : List ℕ} (c : Command) → parsed b ≡ Whole c → refusalOf s c ≢ 0 → Sheet o s b (refusedLine (refusalOf s c) o)
+  -- a command that is not refused writes its line, and the rest follows from the state after it
+  goes-on : {o : ℕ} {s : State} {b : List ℕ} (s' : State) (text rest : List ℕ) (c : Command) → parsed b ≡ Whole c → refusalOf s c ≡ 0 → Means c s s' text →
+      Sheet (o + sizeOf (getD b 0 0)) s' (drop (sizeOf (getD b 0 0)) b) rest → Sheet o s b (text ++ rest)

@@ -1,0 +1,166 @@
+// A job over lent buffers: its next command is read and performed, and its line written.
+// Entry: perform.
+ghost use mathlib.Core.Path.{_≡_};
+ghost use mathlib.Core.Bool.{Bool};
+ghost use mathlib.Core.List.{List};
+ghost use Prim.Native.Nat.{ℕ};
+ghost use lib.ListN.{length, getD};
+ghost use Rattle.lines.specs.Lines.{lineLength};
+ghost use Rattle.commands.specs.Commands.{sizeOf, parsed};
+ghost use Rattle.commands.specs.declared.Parsed.the-variants as parsedAs;
+ghost use Rattle.act.specs.Acts.{Kept};
+ghost use Rattle.job.specs.Turns.{Stops, Turns, Performs};
+use crate::dispatch::dispatch;
+use crate::standing::check_held;
+use act::Held;
+use calls::Check;
+use calls::Refusal;
+use commands::Command;
+use commands::Parsed;
+use commands::parse;
+use commands::size_of;
+use lines::end_line;
+use lines::refused_line;
+use state::refusals::refusal;
+
+pub mod dispatch;
+pub mod standing;
+
+// What comes of the bytes at hand. On: the bytes used and the length of the line. End, Stop: the length of the last line.
+pub enum Turn {
+    Wait,
+    End(usize),
+    Stop(usize),
+    On(usize, usize),
+    Bad(Refusal),
+}
+
+// A turn, and the plan after it.
+pub struct Step {
+    pub turn: Turn,
+    pub held: Held,
+}
+
+// Performs the command at the front of the bytes. `last`: no more bytes come. `offset`: where the bytes stand in the job.
+pub fn perform(
+    held: Held,
+    block: &mut [u8],
+    marks: &mut [u8],
+    line: &mut [u8],
+    bytes: &[u8],
+    last: bool,
+    offset: u64,
+) -> Step
+    ensures { λ r. ⌜ Performs held (now (block .entry)) (now (marks .entry)) (now (line .entry)) (now (bytes .entry)) last offset (r .turn) (r .held) (now (block .exit)) (now (marks .exit)) (now (line .exit)) ⌝ }
+{
+    match check_held(held, &block[..], &marks[..], &line[..]) {
+        Check::Stop(x) => Step {
+            turn: Turn::Bad(x),
+            held,
+        },
+        Check::Pass => take_turn(held, block, marks, line, bytes, last, offset),
+    }
+}
+
+// The turn on a state that nothing refuses.
+fn take_turn(
+    held: Held,
+    block: &mut [u8],
+    marks: &mut [u8],
+    line: &mut [u8],
+    bytes: &[u8],
+    last: bool,
+    offset: u64,
+) -> Step
+    requires { ⌜ Kept held (now block) (now marks) × (length (now line) ≡ lineLength) ⌝ }
+    ensures { λ r. ⌜ Turns held (now (block .entry)) (now (marks .entry)) (now (bytes .entry)) last offset (r .turn) (r .held) (now (block .exit)) (now (marks .exit)) (now (line .exit)) ⌝ }
+{
+    match parse(bytes) {
+        Parsed::Nothing => at_end(held, line, last),
+        Parsed::Unknown => stop(held, line, 7, offset),
+        Parsed::Short => cut_off(held, line, last, offset),
+        Parsed::Whole(command) => go(held, block, marks, line, command, size_at(bytes), offset),
+    }
+}
+
+// The size of the command that the first byte says.
+fn size_at(bytes: &[u8]) -> usize
+    ensures { λ r. ⌜ r ≡ sizeOf (getD (now (bytes .entry)) 0 0) ⌝ }
+{
+    if bytes.len() == 0 {
+        return 0;
+    }
+    size_of(bytes[0])
+}
+
+// No bytes are at hand.
+fn at_end(held: Held, line: &mut [u8], last: bool) -> Step
+    requires { ⌜ length (now line) ≡ lineLength ⌝ }
+    ensures { λ r. ⌜ ((v m b : List ℕ) (offset : ℕ) → parsed b ≡ parsedAs.Nothing → Turns held v m b last offset (r .turn) (r .held) v m (now (line .exit))) ⌝ }
+{
+    if !last {
+        return Step {
+            turn: Turn::Wait,
+            held,
+        };
+    }
+    let count = end_line(line);
+    Step {
+        turn: Turn::End(count),
+        held,
+    }
+}
+
+// The bytes end inside a command.
+fn cut_off(held: Held, line: &mut [u8], last: bool, offset: u64) -> Step
+    requires { ⌜ length (now line) ≡ lineLength ⌝ }
+    ensures { λ r. ⌜ ((v m b : List ℕ) → parsed b ≡ parsedAs.Short → Turns held v m b last offset (r .turn) (r .held) v m (now (line .exit))) ⌝ }
+{
+    if !last {
+        return Step {
+            turn: Turn::Wait,
+            held,
+        };
+    }
+    stop(held, line, 8, offset)
+}
+
+// The refusal is written; nothing else changes.
+fn stop(held: Held, line: &mut [u8], number: u8, offset: u64) -> Step
+    requires { ⌜ length (now line) ≡ lineLength ⌝ }
+    ensures { λ r. ⌜ (r .held ≡ held) × Stops number offset (r .turn) (now (line .exit)) ⌝ }
+{
+    let count = refused_line(line, number, offset);
+    Step {
+        turn: Turn::Stop(count),
+        held,
+    }
+}
+
+// A whole command of this size: refused, or performed.
+fn go(
+    held: Held,
+    block: &mut [u8],
+    marks: &mut [u8],
+    line: &mut [u8],
+    command: Command,
+    size: usize,
+    offset: u64,
+) -> Step
+    requires { ⌜ Kept held (now block) (now marks) × (length (now line) ≡ lineLength) ⌝ }
+    ensures { λ r. ⌜ ((b : List ℕ) (last : Bool) → parsed b ≡ parsedAs.Whole command → size ≡ sizeOf (getD b 0 0) → Turns held (now (block .entry)) (now (marks .entry)) b last offset (r .turn) (r .held) (now (block .exit)) (now (marks .exit)) (now (line .exit))) ⌝ }
+{
+    let planned = held.planned;
+    let plan = held.plan;
+    let number = refusal(planned, plan, command);
+    if number != 0 {
+        return stop(held, line, number, offset);
+    }
+    let done = dispatch(held, block, marks, line, command);
+    let after = done.held;
+    let count = done.count;
+    Step {
+        turn: Turn::On(size, count),
+        held: after,
+    }
+}
