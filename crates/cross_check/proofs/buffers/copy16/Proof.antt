@@ -1,0 +1,53 @@
+-- `buffers::copy16` is safe and ends: the length stays, and the measure is what is left to do. Assumes nothing.
+use Prim.Native.Nat.{_-_}
+use borrow.Author.Needs.{needs}
+use lib.ListN.{length}
+use mathlib.Core.Path.{_≡_, refl}
+use native.Mathlib.Omega.{arith}
+use Rattle.cross_check.proofs.buffers.copy16.Statement.{statement}
+use Rattle.cross_check.proofs.buffers.copy16.Tie as tie
+
+abbrev Inv-loop : tie.InvT-loop
+Inv-loop k from to₀ i₀ to i = length to ≡ length to₀
+
+abbrev μ-loop : tie.MeasureT-loop
+μ-loop k from to₀ i₀ to i = k - i
+
+loop-holds : tie.Need-loop-holds Inv-loop μ-loop
+loop-holds c = refl
+
+get16-requires : tie.Need-get16-requires Inv-loop μ-loop
+get16-requires c κs = tt
+
+put16-requires : tie.Need-put16-requires Inv-loop μ-loop
+put16-requires c κs = tt
+
+add-i : tie.Need-add-i Inv-loop μ-loop
+add-i c = omega arith
+
+loop-less : tie.Need-loop-less Inv-loop μ-loop
+loop-less c = omega arith
+
+loop-again : tie.Need-loop-again Inv-loop μ-loop
+loop-again c = search needs
+
+same-length : tie.Need-same-length Inv-loop μ-loop
+same-length c = search needs
+
+returns : tie.Need-returns Inv-loop μ-loop
+returns c = tt
+
+pub copy16-spec : {M : Type 1} → statement M
+copy16-spec =
+    tie.close
+    (tie.spec
+    Inv-loop
+    μ-loop
+    loop-holds
+    get16-requires
+    put16-requires
+    add-i
+    loop-less
+    loop-again
+    same-length
+    returns)

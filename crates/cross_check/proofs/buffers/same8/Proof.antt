@@ -1,0 +1,50 @@
+-- `buffers::same8` is safe and ends: nothing has to hold from turn to turn, and the measure is what is left to do. Assumes nothing.
+use Prim.Native.Nat.{_-_}
+use native.Mathlib.Omega.{arith}
+use Rattle.cross_check.proofs.buffers.same8.Statement.{statement}
+use Rattle.cross_check.proofs.buffers.same8.Tie as tie
+
+abbrev Inv-loop : tie.InvT-loop
+Inv-loop k a b i₀ i = Unit {0}
+
+abbrev μ-loop : tie.MeasureT-loop
+μ-loop k a b i₀ i = k - i
+
+loop-holds : tie.Need-loop-holds Inv-loop μ-loop
+loop-holds c = tt
+
+get8-requires : tie.Need-get8-requires Inv-loop μ-loop
+get8-requires c κs = tt
+
+get8-requires-2 : tie.Need-get8-requires-2 Inv-loop μ-loop
+get8-requires-2 c κs = tt
+
+returns : tie.Need-returns Inv-loop μ-loop
+returns c = tt
+
+add-i : tie.Need-add-i Inv-loop μ-loop
+add-i c = omega arith
+
+loop-less : tie.Need-loop-less Inv-loop μ-loop
+loop-less c = omega arith
+
+loop-again : tie.Need-loop-again Inv-loop μ-loop
+loop-again c = tt
+
+returns-2 : tie.Need-returns-2 Inv-loop μ-loop
+returns-2 c = tt
+
+pub same8-spec : {M : Type 1} → statement M
+same8-spec =
+    tie.close
+    (tie.spec
+    Inv-loop
+    μ-loop
+    loop-holds
+    get8-requires
+    get8-requires-2
+    returns
+    add-i
+    loop-less
+    loop-again
+    returns-2)

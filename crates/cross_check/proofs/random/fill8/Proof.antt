@@ -1,0 +1,57 @@
+-- `random::fill8` is safe and ends: the length stays, and the measure is what is left to do. Assumes nothing.
+use Prim.Native.Nat.{_-_}
+use borrow.Author.Needs.{needs}
+use lib.ListN.{length}
+use mathlib.Core.Path.{_≡_, refl}
+use native.Mathlib.Omega.{arith}
+use Rattle.cross_check.proofs.random.fill8.Statement.{statement}
+use Rattle.cross_check.proofs.random.fill8.Tie as tie
+
+abbrev Inv-loop : tie.InvT-loop
+Inv-loop s₀ k seed x₀ i₀ s x i = length s ≡ length s₀
+
+abbrev μ-loop : tie.MeasureT-loop
+μ-loop s₀ k seed x₀ i₀ s x i = k - i
+
+loop-holds : tie.Need-loop-holds Inv-loop μ-loop
+loop-holds c = refl
+
+next-requires : tie.Need-next-requires Inv-loop μ-loop
+next-requires c κs = tt
+
+low8-requires : tie.Need-low8-requires Inv-loop μ-loop
+low8-requires c κs = tt
+
+put8-requires : tie.Need-put8-requires Inv-loop μ-loop
+put8-requires c κs = tt
+
+add-i : tie.Need-add-i Inv-loop μ-loop
+add-i c = omega arith
+
+loop-less : tie.Need-loop-less Inv-loop μ-loop
+loop-less c = omega arith
+
+loop-again : tie.Need-loop-again Inv-loop μ-loop
+loop-again c = search needs
+
+same-length : tie.Need-same-length Inv-loop μ-loop
+same-length c = search needs
+
+returns : tie.Need-returns Inv-loop μ-loop
+returns c = tt
+
+pub fill8-spec : {M : Type 1} → statement M
+fill8-spec =
+    tie.close
+    (tie.spec
+    Inv-loop
+    μ-loop
+    loop-holds
+    next-requires
+    low8-requires
+    put8-requires
+    add-i
+    loop-less
+    loop-again
+    same-length
+    returns)

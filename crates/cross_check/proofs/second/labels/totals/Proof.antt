@@ -1,0 +1,69 @@
+-- `second::labels::totals` is safe and ends: the length stays, and the measure is what is left to do. Assumes nothing.
+use Prim.Native.Nat.{_-_}
+use borrow.Author.Needs.{needs}
+use lib.ListN.{length}
+use mathlib.Core.Path.{_≡_, refl}
+use native.Mathlib.Omega.{arith}
+use Rattle.cross_check.proofs.second.labels.totals.Statement.{statement}
+use Rattle.cross_check.proofs.second.labels.totals.Tie as tie
+
+abbrev Inv-loop : tie.InvT-loop
+Inv-loop n t shifts block erased label total₀ end r₀ total r = length total ≡ length total₀
+
+abbrev μ-loop : tie.MeasureT-loop
+μ-loop n t shifts block erased label total₀ end r₀ total r = end - r
+
+plus-requires : tie.Need-plus-requires Inv-loop μ-loop
+plus-requires c κs = tt
+
+clear16-requires : tie.Need-clear16-requires Inv-loop μ-loop
+clear16-requires c κs = tt
+
+loop-holds : tie.Need-loop-holds Inv-loop μ-loop
+loop-holds c = refl
+
+look-requires : tie.Need-look-requires Inv-loop μ-loop
+look-requires c κs = tt
+
+get16-requires : tie.Need-get16-requires Inv-loop μ-loop
+get16-requires c κs = tt
+
+wide8-requires : tie.Need-wide8-requires Inv-loop μ-loop
+wide8-requires c κs = tt
+
+flip16-requires : tie.Need-flip16-requires Inv-loop μ-loop
+flip16-requires c κs = tt
+
+add-r : tie.Need-add-r Inv-loop μ-loop
+add-r c = omega arith
+
+loop-less : tie.Need-loop-less Inv-loop μ-loop
+loop-less c = omega arith
+
+loop-again : tie.Need-loop-again Inv-loop μ-loop
+loop-again c = search needs
+
+same-length : tie.Need-same-length Inv-loop μ-loop
+same-length c = search needs
+
+returns : tie.Need-returns Inv-loop μ-loop
+returns c = tt
+
+pub totals-spec : {M : Type 1} → statement M
+totals-spec =
+    tie.close
+    (tie.spec
+    Inv-loop
+    μ-loop
+    plus-requires
+    clear16-requires
+    loop-holds
+    look-requires
+    get16-requires
+    wide8-requires
+    flip16-requires
+    add-r
+    loop-less
+    loop-again
+    same-length
+    returns)

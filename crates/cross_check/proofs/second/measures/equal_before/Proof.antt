@@ -1,0 +1,50 @@
+-- `second::measures::equal_before` is safe and ends: nothing has to hold from turn to turn, and the measure is what is left to do. Assumes nothing.
+use Prim.Native.Nat.{_-_}
+use native.Mathlib.Omega.{arith}
+use Rattle.cross_check.proofs.second.measures.equal_before.Statement.{statement}
+use Rattle.cross_check.proofs.second.measures.equal_before.Tie as tie
+
+abbrev Inv-loop : tie.InvT-loop
+Inv-loop shifts i j₀ j = Unit {0}
+
+abbrev μ-loop : tie.MeasureT-loop
+μ-loop shifts i j₀ j = i - j
+
+loop-holds : tie.Need-loop-holds Inv-loop μ-loop
+loop-holds c = tt
+
+get16-requires : tie.Need-get16-requires Inv-loop μ-loop
+get16-requires c κs = tt
+
+get16-requires-2 : tie.Need-get16-requires-2 Inv-loop μ-loop
+get16-requires-2 c κs = tt
+
+returns : tie.Need-returns Inv-loop μ-loop
+returns c = tt
+
+add-j : tie.Need-add-j Inv-loop μ-loop
+add-j c = omega arith
+
+loop-less : tie.Need-loop-less Inv-loop μ-loop
+loop-less c = omega arith
+
+loop-again : tie.Need-loop-again Inv-loop μ-loop
+loop-again c = tt
+
+returns-2 : tie.Need-returns-2 Inv-loop μ-loop
+returns-2 c = tt
+
+pub equal-before-spec : {M : Type 1} → statement M
+equal-before-spec =
+    tie.close
+    (tie.spec
+    Inv-loop
+    μ-loop
+    loop-holds
+    get16-requires
+    get16-requires-2
+    returns
+    add-j
+    loop-less
+    loop-again
+    returns-2)

@@ -1,0 +1,53 @@
+-- `second::outcomes::spread_bits` is safe and ends: the length stays, and the measure is what is left to do. Assumes nothing.
+use Prim.Native.Nat.{_-_}
+use borrow.Author.Needs.{needs}
+use lib.ListN.{length}
+use mathlib.Core.Path.{_≡_, refl}
+use native.Mathlib.Omega.{arith}
+use Rattle.cross_check.proofs.second.outcomes.spread_bits.Statement.{statement}
+use Rattle.cross_check.proofs.second.outcomes.spread_bits.Tie as tie
+
+abbrev Inv-loop : tie.InvT-loop
+Inv-loop places marks erased₀ c₀ erased c = length erased ≡ length erased₀
+
+abbrev μ-loop : tie.MeasureT-loop
+μ-loop places marks erased₀ c₀ erased c = places - c
+
+loop-holds : tie.Need-loop-holds Inv-loop μ-loop
+loop-holds c = refl
+
+bit-requires : tie.Need-bit-requires Inv-loop μ-loop
+bit-requires c κs = tt
+
+put8-requires : tie.Need-put8-requires Inv-loop μ-loop
+put8-requires c κs = tt
+
+add-c : tie.Need-add-c Inv-loop μ-loop
+add-c c = omega arith
+
+loop-less : tie.Need-loop-less Inv-loop μ-loop
+loop-less c = omega arith
+
+loop-again : tie.Need-loop-again Inv-loop μ-loop
+loop-again c = search needs
+
+same-length : tie.Need-same-length Inv-loop μ-loop
+same-length c = search needs
+
+returns : tie.Need-returns Inv-loop μ-loop
+returns c = tt
+
+pub spread-bits-spec : {M : Type 1} → statement M
+spread-bits-spec =
+    tie.close
+    (tie.spec
+    Inv-loop
+    μ-loop
+    loop-holds
+    bit-requires
+    put8-requires
+    add-c
+    loop-less
+    loop-again
+    same-length
+    returns)

@@ -1,0 +1,54 @@
+-- `second::peeling::is_settled` is safe and ends: nothing has to hold from turn to turn, and the measure is what is left to do. Assumes nothing.
+use Prim.Native.Nat.{_-_}
+use native.Mathlib.Omega.{arith}
+use Rattle.cross_check.proofs.second.peeling.is_settled.Statement.{statement}
+use Rattle.cross_check.proofs.second.peeling.is_settled.Tie as tie
+
+abbrev Inv-loop : tie.InvT-loop
+Inv-loop n t shifts block erased end r₀ r = Unit {0}
+
+abbrev μ-loop : tie.MeasureT-loop
+μ-loop n t shifts block erased end r₀ r = end - r
+
+plus-requires : tie.Need-plus-requires Inv-loop μ-loop
+plus-requires c κs = tt
+
+loop-holds : tie.Need-loop-holds Inv-loop μ-loop
+loop-holds c = tt
+
+look-requires : tie.Need-look-requires Inv-loop μ-loop
+look-requires c κs = tt
+
+returns : tie.Need-returns Inv-loop μ-loop
+returns c = tt
+
+returns-2 : tie.Need-returns-2 Inv-loop μ-loop
+returns-2 c = tt
+
+add-r : tie.Need-add-r Inv-loop μ-loop
+add-r c = omega arith
+
+loop-less : tie.Need-loop-less Inv-loop μ-loop
+loop-less c = omega arith
+
+loop-again : tie.Need-loop-again Inv-loop μ-loop
+loop-again c = tt
+
+returns-3 : tie.Need-returns-3 Inv-loop μ-loop
+returns-3 c = tt
+
+pub is-settled-spec : {M : Type 1} → statement M
+is-settled-spec =
+    tie.close
+    (tie.spec
+    Inv-loop
+    μ-loop
+    plus-requires
+    loop-holds
+    look-requires
+    returns
+    returns-2
+    add-r
+    loop-less
+    loop-again
+    returns-3)

@@ -1,0 +1,268 @@
+// What a seed gives: plans, blocks, marks, lengths, and faults in each.
+use crate::buffers::bit;
+use crate::buffers::get8;
+use crate::buffers::get16;
+use crate::buffers::put8;
+use crate::buffers::put16;
+use crate::buffers::set_bit;
+use crate::numbers::least;
+use crate::numbers::low8;
+use crate::numbers::minus;
+use crate::numbers::plus;
+use crate::numbers::quotient;
+use crate::numbers::remainder;
+use crate::numbers::times;
+use crate::random::fill8;
+use crate::random::fill16;
+use crate::random::pick;
+use crate::random::seeded;
+use crate::second::messages;
+use crate::second::refusals;
+use crate::tries::lent::Lens;
+use plan::Plan;
+
+// The shift of section j: in pairs, in twos, counting, in sixes, or as it is. Past the first n any number may stand.
+fn shaped(style: usize, n: usize, t: usize, j: usize, p: usize) -> usize {
+    if n <= j {
+        return times(p, 31);
+    }
+    match style {
+        0 => remainder(j / 2, t),
+        1 => remainder(times(p, 2), t),
+        2 => remainder(j, t),
+        3 => remainder(times(p, 6), t),
+        _ => p,
+    }
+}
+
+fn shape(style: usize, n: usize, t: usize, shifts: &mut [u16]) {
+    let mut j: usize = 0;
+    while j < 32 {
+        let p = get16(&shifts[..], j);
+        put16(&mut shifts[..], j, shaped(style, n, t, j, p));
+        j += 1;
+    }
+}
+
+// A plan of n sections of t symbols.
+pub fn plan_of(n: usize, t: usize, style: usize, seed: u64) -> Plan {
+    let mut shifts = [0u16; 32];
+    fill16(&mut shifts[..], 32, t, seed);
+    shape(style, n, t, &mut shifts[..]);
+    Plan { n, t, shifts }
+}
+
+// A plan of at most so many sections and symbols.
+pub fn plan(most_n: usize, most_t: usize, seed: u64) -> Plan {
+    let n = plus(2, pick(seed, 1, minus(most_n, 1)));
+    let t = plus(1, pick(seed, 2, most_t));
+    plan_of(n, t, pick(seed, 3, 8), seeded(seed, 4))
+}
+
+fn with_shift(plan: Plan, j: usize, p: usize) -> Plan {
+    let n = plan.n;
+    let t = plan.t;
+    let mut shifts = plan.shifts;
+    put16(&mut shifts[..], j, p);
+    Plan { n, t, shifts }
+}
+
+fn with_size(plan: Plan, n: usize, t: usize) -> Plan {
+    let shifts = plan.shifts;
+    Plan { n, t, shifts }
+}
+
+// The plan with a fault, or as it is.
+pub fn spoilt(plan: Plan, seed: u64) -> Plan {
+    let n = plan.n;
+    let t = plan.t;
+    match pick(seed, 5, 24) {
+        0 => with_size(plan, 0, t),
+        1 => with_size(plan, 1, t),
+        2 => with_size(plan, 33, t),
+        3 => with_size(plan, n, 0),
+        4 => with_size(plan, n, 2049),
+        5 => with_size(plan, 29, 1130),
+        6 => with_size(plan, plus(17, pick(seed, 6, 16)), 2048),
+        7 => with_size(plan, 1 << 63, 2),
+        8 => with_size(plan, 2, 1 << 63),
+        9 => with_shift(plan, pick(seed, 6, n), t),
+        10 => with_shift(plan, pick(seed, 6, n), plus(t, pick(seed, 7, 60000))),
+        11 => with_shift(plan, 0, 65535),
+        12 => with_shift(plan, minus(n, 1), t),
+        _ => plan,
+    }
+}
+
+fn least_of_places(plan: Plan) -> usize {
+    least(times(plan.n, plan.t), 32768)
+}
+
+// The lengths that the plan asks for; any where the plan is refused.
+pub fn lens(plan: Plan) -> Lens {
+    let t = plan.t;
+    let s = plan.shifts;
+    let places = least_of_places(plan);
+    if refusals::of_plan(plan) != 0 {
+        return Lens {
+            block: places,
+            marks: 5,
+            list: 6,
+            message: 7,
+        };
+    }
+    Lens {
+        block: places,
+        marks: refusals::mark_bytes(places),
+        list: plus(t, t),
+        message: messages::count(plan.n, t, &s[..]),
+    }
+}
+
+// One more, one less, or none.
+fn off(k: usize, seed: u64) -> usize {
+    match pick(seed, 8, 3) {
+        0 => plus(k, 1),
+        1 => minus(k, least(k, 1)),
+        _ => 0,
+    }
+}
+
+// The lengths with a fault in one, or as they are.
+pub fn spoilt_lens(lens: Lens, seed: u64) -> Lens {
+    let block = lens.block;
+    let marks = lens.marks;
+    let list = lens.list;
+    let message = lens.message;
+    match pick(seed, 9, 8) {
+        0 => Lens {
+            block: off(block, seed),
+            marks,
+            list,
+            message,
+        },
+        1 => Lens {
+            block,
+            marks: off(marks, seed),
+            list,
+            message,
+        },
+        2 => Lens {
+            block,
+            marks,
+            list: off(list, seed),
+            message,
+        },
+        3 => Lens {
+            block,
+            marks,
+            list,
+            message: off(message, seed),
+        },
+        _ => lens,
+    }
+}
+
+// A codeword of a random message.
+pub fn codeword(plan: Plan, seed: u64, block: &mut [u8]) {
+    let t = plan.t;
+    let s = plan.shifts;
+    let places = least_of_places(plan);
+    fill8(&mut block[..], places, seed);
+    messages::complete(plan.n, t, &s[..], block);
+}
+
+// Whether a place is erased. Kinds: none; each with the same chance; two neighbouring sections but for one place; parity
+// places; a few; a run.
+fn is_erased(kind: usize, places: usize, t: usize, seed: u64, c: usize, parity: &[u8]) -> bool {
+    match kind {
+        0 => false,
+        1 => pick(seed, plus(1000, c) as u64, 64) < pick(seed, 10, 48),
+        2 => {
+            let from = times(t, pick(seed, 10, quotient(places, t)));
+            let but = plus(from, pick(seed, 11, plus(plus(t, t), 1)));
+            from <= c && c < plus(from, plus(t, t)) && c != but
+        }
+        3 => get8(parity, c) != 0 && pick(seed, plus(1000, c) as u64, 8) != 0,
+        4 => pick(seed, plus(1000, c) as u64, places) < 4,
+        _ => {
+            let from = pick(seed, 10, places);
+            from <= c && c < plus(from, pick(seed, 11, plus(t, t)))
+        }
+    }
+}
+
+fn mark(
+    kind: usize,
+    places: usize,
+    t: usize,
+    seed: u64,
+    c: usize,
+    parity: &[u8],
+    marks: &mut [u8],
+) {
+    if is_erased(kind, places, t, seed, c, parity) {
+        set_bit(marks, c);
+    }
+}
+
+fn mark_all(kind: usize, places: usize, t: usize, seed: u64, parity: &[u8], marks: &mut [u8]) {
+    let mut c: usize = 0;
+    while c < places {
+        mark(kind, places, t, seed, c, parity, &mut marks[..]);
+        c += 1;
+    }
+}
+
+// The parity places are looked for only where the kind asks for them.
+fn parities_for(kind: usize, n: usize, t: usize, shifts: &[u16], parity: &mut [u8]) {
+    if kind == 3 {
+        messages::parities(n, t, shifts, parity);
+    }
+}
+
+pub fn marks(plan: Plan, kind: usize, seed: u64, marks: &mut [u8]) {
+    let t = plan.t;
+    let s = plan.shifts;
+    let places = least_of_places(plan);
+    let mut parity = [0u8; 32784];
+    parities_for(kind, plan.n, t, &s[..], &mut parity[..]);
+    mark_all(kind, places, t, seed, &parity[..], marks);
+}
+
+// A spare bit, where there is one, or none.
+pub fn spoilt_marks(plan: Plan, seed: u64, marks: &mut [u8]) {
+    let places = least_of_places(plan);
+    if pick(seed, 12, 2) != 0 {
+        return;
+    }
+    if places % 8 != 0 {
+        set_bit(marks, plus(places, pick(seed, 13, 8 - places % 8)));
+    }
+}
+
+fn rub_one(marks: &[u8], c: usize, seed: u64, block: &mut [u8]) {
+    if bit(marks, c) != 0 {
+        put8(block, c, low8(pick(seed, plus(1000, c) as u64, 256)));
+    }
+}
+
+// Any symbols at the erased places.
+pub fn rub(plan: Plan, marks: &[u8], seed: u64, block: &mut [u8]) {
+    let places = least_of_places(plan);
+    let mut c: usize = 0;
+    while c < places {
+        rub_one(marks, c, seed, &mut block[..]);
+        c += 1;
+    }
+}
+
+// Another symbol at one place, where the block is not as it was sent.
+pub fn damage(plan: Plan, is_sent: bool, seed: u64, block: &mut [u8]) {
+    if is_sent {
+        return;
+    }
+    let c = pick(seed, 14, least_of_places(plan));
+    let old = get8(&block[..], c);
+    put8(block, c, old ^ low8(plus(1, pick(seed, 15, 255))));
+}
