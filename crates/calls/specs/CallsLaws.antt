@@ -9,12 +9,12 @@ use native.Mathlib.Omega.{arith}
 use lib.Dec.{eqb}
 use lib.ListN.{length, getD}
 use borrow.Author.Tests.{eqb-true}
-use Rattle.plan.specs.Bounds.{maxPlaces}
+use Rattle.bounds.specs.Bounds.{maxPlaces}
 use Rattle.plan.specs.Layout.{Layout, messageCount}
 use Rattle.plan.specs.Plans as plans
 use Rattle.plan.specs.Plans.{layoutOf, verdictOf, messageCountOf}
 use Rattle.plan.specs.PlanLaws.{good-bounds}
-use Rattle.plan.specs.Tests.{and-left, and-right}
+use Rattle.math.specs.Tests.{and-left, and-right}
 use Rattle.plan.specs.declared.Plan.{Plan}
 use Rattle.plan.specs.declared.Verdict.{Verdict}
 use Rattle.plan.specs.declared.Verdict.the-variants as verdict

@@ -4,7 +4,7 @@ ghost use mathlib.Core.Path.{_≡_};
 ghost use Prim.Native.Nat.{_*_, _≤_};
 ghost use lib.Count.{ones};
 ghost use lib.ListN.{length};
-ghost use Rattle.plan.specs.Bounds.{maxPlaces};
+ghost use Rattle.bounds.specs.Bounds.{maxPlaces};
 ghost use Rattle.plan.specs.Layout.{messageCount};
 ghost use Rattle.plan.specs.Plans.{layoutOf, verdictOf};
 ghost use Rattle.plan.specs.declared.Verdict.the-variants as verdict;

@@ -8,7 +8,7 @@ use lib.ListN.{length, take}
 use Rattle.math.specs.Gcd.{gcdAll}
 use Rattle.math.specs.MembersLaws.{upTo-∈, rising-upTo}
 use Rattle.plan.specs.Layout.{Valid, layout, divisor}
-use Rattle.plan.specs.Shifts.{gaps}
+use Rattle.shifts.specs.Shifts.{gaps}
 use Rattle.plan.specs.Plans.{verdictOf, layoutOf}
 use Rattle.plan.specs.PlanLaws.{good-bounds, divisor-is}
 use Rattle.plan.specs.declared.Plan.{Plan}

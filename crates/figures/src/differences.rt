@@ -4,7 +4,6 @@ ghost use Prim.Native.Nat.{_≤_, _<_};
 ghost use lib.ListN.{length};
 ghost use Rattle.figures.specs.Sections.{Usable, TwoOf};
 ghost use Rattle.figures.specs.Differences.{differenceOf, Marked, Fresh, RowDone, KeepsRule};
-use plan::shifts;
 
 // (p_i - p_j) mod t, without a division: p_i + t - p_j is below 2t.
 fn difference(t: usize, s: &[u16], i: usize, j: usize) -> usize

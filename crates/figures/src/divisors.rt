@@ -3,12 +3,11 @@
 ghost use mathlib.Core.Path.{_≡_};
 ghost use Prim.Native.Nat.{_-_, _*_, _/_, _≤_, _<_};
 ghost use lib.ListN.{length};
-ghost use Rattle.plan.specs.Bounds.{maxT};
+ghost use Rattle.bounds.specs.Bounds.{maxT};
 ghost use Rattle.plan.specs.Layout.{layout};
 ghost use Rattle.code.specs.Figures.{Neighbours};
 ghost use Rattle.figures.specs.Divisors.{sharing, Most, Row, Ordered, Near, NeighbourOf, Greater};
-use plan::gcd;
-use plan::shifts;
+use shifts::gcd;
 
 // gcd(p_i - p_j, t)
 fn share(t: usize, s: &[u16], i: usize, j: usize) -> usize

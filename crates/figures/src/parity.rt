@@ -3,7 +3,6 @@ ghost use mathlib.Core.Path.{_≡_};
 ghost use Prim.Native.Nat.{_-_, _*_};
 ghost use Rattle.plan.specs.Layout.{layout, divisor};
 ghost use Rattle.figures.specs.Sections.{Usable};
-use plan::shifts;
 
 pub fn count(n: usize, t: usize, s: &[u16]) -> usize
     requires { ⌜ Usable n t (now s) ⌝ }

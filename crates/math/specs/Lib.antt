@@ -1,4 +1,5 @@
--- The mathematics below the code's theory, with no word of the recorder: members of lists, exclusive-or sums, divisors, residues.
+-- The mathematics below the code's theory, with no word of the recorder: tests, members of lists, exclusive-or sums, divisors, residues.
+pub mod Tests
 pub mod Members
 pub mod MembersLaws
 pub mod Pigeonhole

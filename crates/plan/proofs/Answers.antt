@@ -1,17 +1,17 @@
 -- The cases of the constructors' definitions as laws over plain numbers: which answer a failed or passed test gives.
-use mathlib.Core.Path.{_≡_, refl, sym, _∙_}
-use mathlib.Core.Bool.{Bool, true, false, not, _&&_}
+use mathlib.Core.Path.{_≡_, sym, _∙_}
+use mathlib.Core.Bool.{Bool, true, false, not}
 use mathlib.Core.List.{List, map}
-use Prim.Native.Nat.{ℕ, _-_, _*_, _^_, _%_, _<_, _≤_}
+use Prim.Native.Nat.{ℕ, _^_, _%_, _<_, _≤_}
 use native.Mathlib.Omega.{arith}
-use lib.Dec.{leb, eqb}
 use lib.ListN.{length, take}
 use borrow.Author.Tests.{le-leb, lt-leb, eq-eqb, ne-eqb, not-true, not-false}
-use Rattle.math.specs.Gcd.{gcd}
+use Rattle.math.specs.Tests.{no-right}
 use Rattle.math.specs.Members.{upTo}
-use Rattle.plan.specs.Bounds.{sizeFits, allBelow}
-use Rattle.plan.specs.Ruler.{rulerT, rulerShifts}
-use Rattle.plan.specs.Plans.{verdictOf, made, refused, planOf, straightOf, powersNeed, powersOf, rulerOf}
+use Rattle.bounds.specs.Bounds.{sizeFits, allBelow}
+use Rattle.shifts.specs.Families.{powersNeed}
+use Rattle.shifts.specs.Ruler.{rulerT, rulerShifts}
+use Rattle.plan.specs.Plans.{verdictOf, made, refused, planOf, straightOf, powersOf, rulerOf}
 use Rattle.plan.specs.declared.Plan.{Plan}
 use Rattle.plan.specs.declared.Verdict.the-variants.{Good, Size, Shift, Family}
 
@@ -21,32 +21,6 @@ failed r e h = sym e ∙ not-true r h
 
 pub passed : (r : Bool) {b : Bool} → r ≡ b → not r ≡ false → b ≡ true
 passed r e h = sym e ∙ not-false r h
-
-no-right : (a : Bool) → (a && false) ≡ false
-no-right true = refl
-no-right false = refl
-
-module _ (n t : ℕ) where
-  pub size-few : n < 2 → false ≡ sizeFits n t
-  unfolding sizeFits
-  size-few h = simp (lt-leb 2 n h)
-
-  pub size-many : 32 < n → false ≡ sizeFits n t
-  unfolding sizeFits
-  size-many h = simp (lt-leb n 32 h, no-right)
-
-  pub size-empty : t < 1 → false ≡ sizeFits n t
-  unfolding sizeFits
-  size-empty h = simp (lt-leb 1 t h, no-right)
-
-  pub size-long : 2048 < t → false ≡ sizeFits n t
-  unfolding sizeFits
-  size-long h = simp (lt-leb t 2048 h, no-right)
-
-  -- where the other bounds hold, the number of places decides
-  pub size-places : 2 ≤ n → n ≤ 32 → 1 ≤ t → t ≤ 2048 → leb (n * t) 32768 ≡ sizeFits n t
-  unfolding sizeFits
-  size-places a b c d = simp (le-leb 2 n a, le-leb n 32 b, le-leb 1 t c, le-leb t 2048 d)
 
 module _ (n t : ℕ) where
   pub straight-size : sizeFits n t ≡ false → refused Size ≡ straightOf n t
@@ -97,29 +71,6 @@ module _ (n : ℕ) where
       let k : 2 ≤ n = omega arith in
       let l : n ≤ 32 = omega arith in
       simp (e, le-leb 2 n k, le-leb n 32 l, le-leb 3 n h, le-leb n 14 g)
-
--- the conditions of the powers
-module _ (n t q : ℕ) where
-  pub need-few : n < 3 → powersNeed n t q ≡ false
-  unfolding powersNeed
-  need-few h = simp (lt-leb 3 n h)
-
-  pub need-narrow : t < n → powersNeed n t q ≡ false
-  unfolding powersNeed
-  need-narrow h = simp (lt-leb n t h, no-right)
-
-  pub need-small : q < 2 → powersNeed n t q ≡ false
-  unfolding powersNeed
-  need-small h = simp (lt-leb 2 q h, no-right)
-
-  pub need-factor : (gcd t q ≡ 1 → ⊥) → powersNeed n t q ≡ false
-  unfolding powersNeed
-  need-factor h = simp (ne-eqb (gcd t q) 1 h, no-right)
-
-  -- where all but the last hold, the last decides
-  pub need-last : {g : ℕ} → 3 ≤ n → n ≤ t → 2 ≤ q → gcd t q ≡ 1 → g ≡ gcd t (q - 1) → powersNeed n t q ≡ eqb g 1
-  unfolding powersNeed
-  need-last a b c d e = simp (le-leb 3 n a, le-leb n t b, le-leb 2 q c, eq-eqb (gcd t q) 1 d, e)
 
 module _ (n t : ℕ) (s : List ℕ) where
   pub of-size : sizeFits n t ≡ false → refused Size ≡ planOf n t s

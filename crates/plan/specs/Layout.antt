@@ -1,6 +1,5 @@
 -- A plan as the theory sees it: its sections, t, and the shift of each section; places and rows as numbers.
-use mathlib.Core.Path.{_≡_}
-use mathlib.Core.List.{List, [], _∷_, map}
+use mathlib.Core.List.{List, map}
 use Prim.Native.Nat.{ℕ, _+_, _-_, _*_, _/_, _%_, _<_}
 use lib.ListN.{getD}
 use Rattle.math.specs.Members.{_∈_, Rising, upTo}

@@ -14,19 +14,20 @@ use Rattle.math.specs.Gcd.{gcdAll, gap}
 use Rattle.math.specs.GcdLaws.{gcdAll-le}
 use Rattle.math.specs.Members.{upTo}
 use Rattle.math.specs.MembersLaws.{upTo-∈, rising-upTo, length-upTo, getD-upTo, upTo-suc}
-use Rattle.plan.specs.Bounds.{sizeFits, allBelow, minN, maxN, minT, maxT, maxPlaces}
+use Rattle.bounds.specs.Bounds.{sizeFits, allBelow, minN, maxN, minT, maxT, maxPlaces}
 use Rattle.plan.specs.Layout.{Layout, Valid, divisor, messageCount, bottomRow, topRow, top, bottom}
-use Rattle.plan.specs.Ruler.{rulerT, rulerShifts}
-use Rattle.plan.specs.Shifts.{gaps}
-use Rattle.plan.specs.Plans.{numberOf, layoutOf, verdictOf, made, refused, planOf, family, straightOf, powersNeed, powersOf, rulerOf, countOf, messageCountOf}
+use Rattle.shifts.specs.Families.{powersNeed}
+use Rattle.shifts.specs.Ruler.{rulerT, rulerShifts}
+use Rattle.shifts.specs.Shifts.{gaps}
+use Rattle.plan.specs.Plans.{numberOf, layoutOf, verdictOf, made, refused, planOf, family, straightOf, powersOf, rulerOf, countOf, messageCountOf}
 use Rattle.plan.specs.declared.Plan.{Plan}
 use Rattle.plan.specs.declared.Made.{Made}
 use Rattle.plan.specs.declared.Verdict.{Verdict}
 use Rattle.plan.specs.declared.Verdict.the-variants.{Good, Size, Shift, Family}
 use Rattle.plan.specs.declared.Count.the-variants.{Is}
-use Rattle.plan.specs.Tests.{and-left, and-right}
-use Rattle.plan.specs.ShiftsLaws.{take-padded, below-allBelow}
-use Rattle.plan.specs.RulerLaws.{ruler-length, ruler-below, ruler-fits}
+use Rattle.math.specs.Tests.{and-left, and-right}
+use Rattle.shifts.specs.ShiftsLaws.{take-padded, below-allBelow}
+use Rattle.shifts.specs.RulerLaws.{ruler-length, ruler-below, ruler-fits}
 
 -- n, t and n × t within bounds
 pub record Fitting (n t : ℕ) : Type 0 where

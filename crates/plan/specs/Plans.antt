@@ -1,15 +1,15 @@
 -- What refuses a plan, and the plan that each constructor makes (01, "What is turned away" and "Families and figures").
-use mathlib.Core.Bool.{Bool, true, false, cond, _&&_}
-use mathlib.Core.List.{List, [], _∷_, _++_, map}
-use Prim.Native.Nat.{ℕ, _-_, _%_, _^_}
+use mathlib.Core.Bool.{Bool, cond, _&&_}
+use mathlib.Core.List.{List, [], map}
+use Prim.Native.Nat.{ℕ, _%_, _^_}
 use lib.Dec.{leb, eqb}
-use lib.ListN.{length, getD, take, replicate}
+use lib.ListN.{length, take}
 use Rattle.math.specs.Members.{upTo}
-use Rattle.math.specs.Gcd.{gcd}
-use Rattle.plan.specs.Bounds.{minN, maxN, sizeFits, allBelow}
-use Rattle.plan.specs.Shifts.{padded}
+use Rattle.bounds.specs.Bounds.{minN, maxN, sizeFits, allBelow}
+use Rattle.shifts.specs.Shifts.{padded}
 use Rattle.plan.specs.Layout.{Layout, layout, messageCount}
-use Rattle.plan.specs.Ruler.{rulerMin, rulerMax, rulerT, rulerShifts}
+use Rattle.shifts.specs.Families.{powersNeed}
+use Rattle.shifts.specs.Ruler.{rulerMin, rulerMax, rulerT, rulerShifts}
 use Rattle.plan.specs.declared.Plan.{Plan}
 use Rattle.plan.specs.declared.Made.{Made}
 use Rattle.plan.specs.declared.Verdict.{Verdict}
@@ -67,10 +67,6 @@ unfolding sizeFits family upTo
 straightOf n t = family (sizeFits n t) (leb n t) n t (upTo n)
 
 -- "Powers: p_j = q to the j, mod t, needs n from 3 to t, q at least 2, t sharing no factor with q nor with q - 1."
-unfoldable pub powersNeed : ℕ → ℕ → ℕ → Bool
-unfolding gcd
-powersNeed n t q = leb 3 n && leb n t && leb 2 q && eqb (gcd t q) 1 && eqb (gcd t (q - 1)) 1
-
 unfoldable pub powersOf : ℕ → ℕ → ℕ → Made
 unfolding sizeFits family powersNeed upTo
 powersOf n t q = family (sizeFits n t) (powersNeed n t q) n t (map (λ j. q ^ j % t) (upTo n))

@@ -1,21 +1,20 @@
 // A plan: n sections of t symbols, each section with its shift. What refuses a plan, and the families of plans.
-// Entries: Verdict::number, Plan::verdict, Plan::of, Plan::straight, Plan::powers, Plan::ruler, Plan::message_count, gcd.
-// The modules bounds, families, places, ruler and shifts are public for the crates above only.
+// Entries: Verdict::number, Plan::verdict, Plan::of, Plan::straight, Plan::powers, Plan::ruler, Plan::message_count.
+// The modules places and ties are public for the crates above only.
 ghost use mathlib.Core.Path.{_≡_};
 ghost use mathlib.Core.List.{List};
 ghost use Prim.Native.Nat.{ℕ};
-ghost use Rattle.math.specs.Gcd.{gcd as gcdOf};
-ghost use Rattle.plan.specs.Shifts.{padded};
+ghost use Rattle.shifts.specs.Shifts.{padded};
 ghost use Rattle.plan.specs.Plans as plans;
 ghost use Rattle.plan.specs.Plans.{numberOf, verdictOf, planOf, straightOf, powersOf, rulerOf, messageCountOf};
+use shifts::families;
+use shifts::ruler;
 
-pub mod bounds;
-pub mod families;
 pub mod places;
-pub mod ruler;
-pub mod shifts;
+pub mod ties;
 
-// The shifts past the first n influence nothing.
+// The shifts past the first n influence nothing. C's layout: the C entry points take it by value.
+#[repr(C)]
 pub struct Plan {
     pub n: usize,
     pub t: usize,
@@ -61,15 +60,15 @@ impl Verdict {
 }
 
 impl Plan {
-    pub const MIN_N: usize = 2;
+    pub const MIN_N: usize = bounds::MIN_N;
 
-    pub const MAX_N: usize = 32;
+    pub const MAX_N: usize = bounds::MAX_N;
 
-    pub const MIN_T: usize = 1;
+    pub const MIN_T: usize = bounds::MIN_T;
 
-    pub const MAX_T: usize = 2048;
+    pub const MAX_T: usize = bounds::MAX_T;
 
-    pub const MAX_PLACES: usize = 32768;
+    pub const MAX_PLACES: usize = bounds::MAX_PLACES;
 
     // What refuses a plan: 1, then 2.
     pub fn verdict(self) -> Verdict
@@ -185,18 +184,4 @@ fn refused(answer: Verdict) -> Made
             shifts: [0; 32],
         },
     }
-}
-
-// Euclid's remainders. The divisor of 0 and t is t.
-pub fn gcd(a: usize, b: usize) -> usize
-    ensures { λ r. ⌜ r ≡ gcdOf a b ⌝ }
-{
-    let mut x = a;
-    let mut y = b;
-    while y != 0 {
-        let rest = x % y;
-        x = y;
-        y = rest;
-    }
-    x
 }

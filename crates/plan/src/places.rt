@@ -2,7 +2,7 @@
 // Public for the crates above only.
 ghost use mathlib.Core.Path.{_≡_};
 ghost use Prim.Native.Nat.{_+_, _*_, _/_, _%_, _<_, _≤_};
-ghost use Rattle.plan.specs.Bounds.{maxT, maxPlaces};
+ghost use Rattle.bounds.specs.Bounds.{maxT, maxPlaces};
 ghost use Rattle.plan.specs.Layout.{placeOf, topRow, bottomRow};
 use crate::Place;
 use crate::Row;

@@ -10,9 +10,9 @@ ghost use Rattle.plan.specs.Layout.{Layout, layout};
 ghost use Rattle.runs.specs.Sized.{Sized};
 ghost use Rattle.runs.specs.Runs.{RunsOf, Runs, Lent, Spread, Marked};
 use plan::Place;
-use plan::gcd;
-use plan::shifts::gap;
-use plan::shifts::wide;
+use shifts::gap;
+use shifts::gcd;
+use shifts::wide;
 
 pub mod marks;
 pub mod parts;

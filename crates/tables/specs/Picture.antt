@@ -7,7 +7,7 @@ use Prim.Native.Nat.{ℕ, _+_, _*_, _/_, _%_, _≤_, _<_}
 use lib.ListN.{length, getD}
 use Rattle.math.specs.Members.{_∈_, keep}
 use Rattle.math.specs.Sums.{xorOver}
-use Rattle.plan.specs.Bounds.{minN, maxN, minT, maxT, maxPlaces}
+use Rattle.bounds.specs.Bounds.{minN, maxN, minT, maxT, maxPlaces}
 use Rattle.plan.specs.Layout.{Layout, layout}
 use Rattle.code.specs.Places.{places, meets}
 use Rattle.code.specs.Codewords.{syndrome}

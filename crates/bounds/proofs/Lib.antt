@@ -1,0 +1,2 @@
+-- The cases of `sizeFits`.
+pub mod Sizes

@@ -1,0 +1,2 @@
+-- The bounds of a plan.
+pub mod Bounds

@@ -1,0 +1,2 @@
+-- The cases of `powersNeed`.
+pub mod Conditions
