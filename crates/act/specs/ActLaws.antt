@@ -8,10 +8,10 @@ use Prim.Native.Nat.{ℕ, zero, suc, _+_, _-_, _*_, _/_, _≤_, _<_}
 use native.Mathlib.Decide.{ℕ-discrete}
 use native.Mathlib.Omega.{arith}
 use lib.ListN.{length, getD, set, take, drop, replicate, length-set, length-take, length-replicate, length-append, List·getD-eq-default}
-use lib.Seq.{length-front, take-set-lt, getD-set-same, getD-set-other, getD-take, length-take-le, take-at}
+use lib.Seq.{length-front, take-set-lt, drop-set-lt, getD-set-same, getD-set-other, getD-take, length-take-le, take-at}
 use Rattle.math.specs.MembersLaws.{length-upTo}
-use Rattle.plan.specs.Bounds.{sizeFits}
-use Rattle.plan.specs.Shifts.{padded}
+use Rattle.bounds.specs.Bounds.{sizeFits}
+use Rattle.shifts.specs.Shifts.{padded}
 use Rattle.plan.specs.Layout.{Layout, layout, divisor, messageCount}
 use Rattle.plan.specs.Plans as plans
 use Rattle.plan.specs.Plans.{layoutOf, verdictOf, made, straightOf, powersOf, rulerOf}
@@ -26,13 +26,13 @@ use Rattle.code.specs.Laws.ParityCount.{messages, message-lists, length-message
 use Rattle.code.specs.Figures as code
 use Rattle.lines.specs.Lines.{line, symbolWord, figuresWord, sealedWord}
 use Rattle.commands.specs.declared.Command.the-variants.{NewPlan, SetShift, SetSymbol, MarkOne, MarkRun, Recover, Seal, Show, Figures, Straight, Powers, Ruler}
-use Rattle.state.specs.State.{State, fresh, Marked, withPlan, withBlock}
+use Rattle.state.specs.State.{State, fresh, Marked, withShift, withPlan, withBlock}
 use Rattle.state.specs.Refusals.{refusalOf}
-use Rattle.state.specs.MarkedLaws.{marked-no-spare, no-marks-no-spare}
+use Rattle.state.specs.MarkedLaws.{Bytes, marked-no-spare, no-marks-no-spare}
 use Rattle.act.specs.Meaning.{Means, Marking, Figuring, Sealing, Recovering}
-use Rattle.act.specs.Acts.{stateOf, Kept, Acts, blockLength, marksLength}
+use Rattle.act.specs.Acts.{stateOf, Kept, Rest, Acts, blockLength, marksLength}
 use Rattle.act.specs.Wholes.{Whole, Recovered, whole}
-use Rattle.act.specs.StateLaws.{number-good, holding, marked-take, places-most, bytes-most, part-back, part-long, cleared-front}
+use Rattle.act.specs.StateLaws.{number-good, holding, marked-take, marked-rest, places-most, bytes-most, part-back, part-long, part-rest, cleared-front}
 use Rattle.act.specs.declared.Held.{Held}
 
 -- ---- new plans
@@ -59,20 +59,20 @@ blank-good n t s f e =
 
 -- the plan beside a good answer is begun
 pub new-acts : {n t : ℕ} (h : Held) {v m v' m' : List ℕ} {p : Plan} {r : Held} → p ≡ made n t (replicate n 0) .plan →
-    (stateOf r v' m' ≡ fresh p) × Kept r v' m' → Acts (NewPlan n t) h v m [] r v' m'
-new-acts h e b = record { means = unfold Means in (b .0 ∙ ap fresh e, refl); kept = b .1 }
+    (stateOf r v' m' ≡ fresh p) × Kept r v' m' × Rest r v m v' m' → Acts (NewPlan n t) h v m [] r v' m'
+new-acts h e b = record { means = unfold Means in (b .0 ∙ ap fresh e, refl); kept = b .1; rest = b .2 }
 
 pub straight-acts : {n t : ℕ} (h : Held) {v m v' m' : List ℕ} {a : Made} {r : Held} → a ≡ straightOf n t →
-    (stateOf r v' m' ≡ fresh (a .plan)) × Kept r v' m' → Acts (Straight n t) h v m [] r v' m'
-straight-acts h e b = record { means = unfold Means in (b .0 ∙ ap (λ (x : Made). fresh (x .plan)) e, refl); kept = b .1 }
+    (stateOf r v' m' ≡ fresh (a .plan)) × Kept r v' m' × Rest r v m v' m' → Acts (Straight n t) h v m [] r v' m'
+straight-acts h e b = record { means = unfold Means in (b .0 ∙ ap (λ (x : Made). fresh (x .plan)) e, refl); kept = b .1; rest = b .2 }
 
 pub powers-acts : {n t q : ℕ} (h : Held) {v m v' m' : List ℕ} {a : Made} {r : Held} → a ≡ powersOf n t q →
-    (stateOf r v' m' ≡ fresh (a .plan)) × Kept r v' m' → Acts (Powers n t q) h v m [] r v' m'
-powers-acts h e b = record { means = unfold Means in (b .0 ∙ ap (λ (x : Made). fresh (x .plan)) e, refl); kept = b .1 }
+    (stateOf r v' m' ≡ fresh (a .plan)) × Kept r v' m' × Rest r v m v' m' → Acts (Powers n t q) h v m [] r v' m'
+powers-acts h e b = record { means = unfold Means in (b .0 ∙ ap (λ (x : Made). fresh (x .plan)) e, refl); kept = b .1; rest = b .2 }
 
 pub ruler-acts : {n : ℕ} (h : Held) {v m v' m' : List ℕ} {a : Made} {r : Held} → a ≡ rulerOf n →
-    (stateOf r v' m' ≡ fresh (a .plan)) × Kept r v' m' → Acts (Ruler n) h v m [] r v' m'
-ruler-acts h e b = record { means = unfold Means in (b .0 ∙ ap (λ (x : Made). fresh (x .plan)) e, refl); kept = b .1 }
+    (stateOf r v' m' ≡ fresh (a .plan)) × Kept r v' m' × Rest r v m v' m' → Acts (Ruler n) h v m [] r v' m'
+ruler-acts h e b = record { means = unfold Means in (b .0 ∙ ap (λ (x : Made). fresh (x .plan)) e, refl); kept = b .1; rest = b .2 }
 
 -- a family that is not refused makes a good plan
 module _ (s : State) where
@@ -92,8 +92,8 @@ module _ (s : State) where
 
 pub shifted : (h : Held) (j p : ℕ) → h .planned ≡ true → j < h .plan .n → p < h .plan .t → verdictOf (h .plan) ≡ verdict.Good →
     length (h .plan .shifts) ≡ 32 → (v m : List ℕ) → Kept h v m →
-    Acts (SetShift j p) h v m [] (holding (record { n = h .plan .n; t = h .plan .t; shifts = set (h .plan .shifts) j p })) v m
-unfolding Means stateOf withPlan markBytes layoutOf layout NoSpare
+    Acts (SetShift j p) h v m [] (holding (withShift (h .plan) j p)) v m
+unfolding Means stateOf withPlan withShift markBytes layoutOf layout NoSpare
 shifted h j p planned a b g l v m k =
     record {
       means = (refl, refl);
@@ -103,6 +103,7 @@ shifted h j p planned a b g l v m k =
         block-long = k .block-long;
         marks-long = k .marks-long;
       };
+      rest = record { block = refl; marks = refl };
     }
   where
     size : Fitting (h .plan .n) (h .plan .t)
@@ -116,9 +117,10 @@ shifted h j p planned a b g l v m k =
 
 -- ---- symbols and marks
 
-module _ {h : Held} {v m : List ℕ} (k : Kept h v m) (planned : h .planned ≡ true) where
+module _ {h : Held} {v m : List ℕ} (k : Kept h v m) (planned : h .planned ≡ true) (bytes : Bytes m) where
   marking : {m' : List ℕ} {c n b : ℕ} (v' : List ℕ) → length v' ≡ blockLength → Marked m c n b m' → c + n ≤ h .plan .n * h .plan .t →
       Marking (stateOf h v m) (stateOf h v' m') (take (h .plan .n * h .plan .t) v') c n b × Kept h v' m'
+      × (drop (markBytes (layoutOf (h .plan))) m' ≡ drop (markBytes (layoutOf (h .plan))) m)
   unfolding stateOf withBlock markBytes layoutOf layout
   marking {m'} {c} {n} {b} v' e d less =
       let bits : c + n ≤ 8 * ((h .plan .n * h .plan .t + 7) / 8) = omega arith in
@@ -130,6 +132,7 @@ module _ {h : Held} {v m : List ℕ} (k : Kept h v m) (planned : h .planned ≡ 
           block-long = e;
           marks-long = d .long ∙ k .marks-long;
         },
+        marked-rest ((h .plan .n * h .plan .t + 7) / 8) bytes d bits,
       )
 
   pub symbol-set : (c x : ℕ) → c < h .plan .n * h .plan .t → {v' m' : List ℕ} → v' ≡ set v c x → Marked m c 1 0 m' → Acts (SetSymbol c x) h v m [] h v' m'
@@ -138,27 +141,33 @@ module _ {h : Held} {v m : List ℕ} (k : Kept h v m) (planned : h .planned ≡ 
       let r = marking v' (ap length e ∙ length-set v c x ∙ k .block-long) d (omega arith) in
       let f : take (h .plan .n * h .plan .t) v' ≡ set (take (h .plan .n * h .plan .t) v) c x =
       ap (take (h .plan .n * h .plan .t)) e ∙ take-set-lt (h .plan .n * h .plan .t) v c x less in
-      record { means = (subst (λ l. Marking (stateOf h v m) (stateOf h v' m') l c 1 0) f (r .0), refl); kept = r .1 }
+      record {
+        means = (subst (λ l. Marking (stateOf h v m) (stateOf h v' m') l c 1 0) f (r .0), refl);
+        kept = r .1;
+        rest = record { block = ap (drop (h .plan .n * h .plan .t)) e ∙ drop-set-lt (h .plan .n * h .plan .t) v c x less; marks = r .2 };
+      }
 
   pub one-marked : (c : ℕ) → c < h .plan .n * h .plan .t → {m' : List ℕ} → Marked m c 1 1 m' → Acts (MarkOne c) h v m [] h v m'
   unfolding Means stateOf
   one-marked c less d =
       let r = marking v (k .block-long) d (omega arith) in
-      record { means = (r .0, refl); kept = r .1 }
+      record { means = (r .0, refl); kept = r .1; rest = record { block = refl; marks = r .2 } }
 
   pub run-marked : (c n : ℕ) → c + n ≤ h .plan .n * h .plan .t → {m' : List ℕ} → Marked m c n 1 m' → Acts (MarkRun c n) h v m [] h v m'
   unfolding Means stateOf
   run-marked c n less d =
       let r = marking v (k .block-long) d less in
-      record { means = (r .0, refl); kept = r .1 }
+      record { means = (r .0, refl); kept = r .1; rest = record { block = refl; marks = r .2 } }
 
-  pub shown : (c : ℕ) → c < h .plan .n * h .plan .t → {text : List ℕ} → text ≡ line symbolWord (c ∷ getD v c 0 ∷ []) → Acts (Show c) h v m text h v m
-  unfolding Means stateOf
-  shown c less e =
-      record {
-        means = (refl, e ∙ ap (λ x. line symbolWord (c ∷ x ∷ [])) (sym (getD-take (h .plan .n * h .plan .t) v c 0 less)));
-        kept = k;
-      }
+pub shown : {h : Held} {v m : List ℕ} → Kept h v m → (c : ℕ) → c < h .plan .n * h .plan .t → {text : List ℕ} → text ≡ line symbolWord (c ∷ getD v c 0 ∷ []) →
+    Acts (Show c) h v m text h v m
+unfolding Means stateOf
+shown {h} {v} {m} k c less e =
+    record {
+      means = (refl, e ∙ ap (λ x. line symbolWord (c ∷ x ∷ [])) (sym (getD-take (h .plan .n * h .plan .t) v c 0 less)));
+      kept = k;
+      rest = record { block = refl; marks = refl };
+    }
 
 pub figured : {h : Held} {v m : List ℕ} → Kept h v m → (a b c d : ℕ) → code.Figures (layoutOf (h .plan)) a b c d →
     {text : List ℕ} → text ≡ line figuresWord (a ∷ b ∷ c ∷ d ∷ []) → Acts Figures h v m text h v m
@@ -166,6 +175,7 @@ figured {h} {v} {m} k a b c d f e =
     record {
       means = unfold Means stateOf in record { parity = a; pair = b; neighbour = c; distance = d; figures = f; state = refl; says = e };
       kept = k;
+      rest = record { block = refl; marks = refl };
     }
 
 -- ---- the whole block
@@ -214,6 +224,15 @@ module _ {h : Held} {v m : List ℕ} (k : Kept h v m) (planned : h .planned ≡ 
         marks-long = length-front m b ((h .plan .n * h .plan .t + 7) / 8) b-long ∙ k .marks-long;
       }
 
+  back-rest : Rest h v m (a ++ drop (h .plan .n * h .plan .t) v) (b ++ drop ((h .plan .n * h .plan .t + 7) / 8) m)
+  unfolding markBytes layoutOf layout
+  back-rest =
+      let g = k .good planned in
+      record {
+        block = part-rest (h .plan .n * h .plan .t) v a (omega (arith, places-most (h .plan) g, k .block-long)) a-long;
+        marks = part-rest ((h .plan .n * h .plan .t + 7) / 8) m b (omega (arith, bytes-most (h .plan) g, k .marks-long)) b-long;
+      }
+
   before-state : stateOf h v m ≡ whole (h .plan) (take (h .plan .n * h .plan .t) v) (take ((h .plan .n * h .plan .t + 7) / 8) m)
   unfolding stateOf markBytes layoutOf layout
   before-state = rw planned
@@ -226,6 +245,7 @@ module _ {h : Held} {v m : List ℕ} (k : Kept h v m) (planned : h .planned ≡ 
             subst (λ s. Recovering s (stateOf h (a ++ drop (h .plan .n * h .plan .t) v) (b ++ drop ((h .plan .n * h .plan .t + 7) / 8) m)) text) (sym before-state)
             (subst (λ s. Recovering (whole (h .plan) (take (h .plan .n * h .plan .t) v) (take ((h .plan .n * h .plan .t + 7) / 8) m)) s text) (sym back-state) (r .means));
         kept = back-kept (r .spare);
+        rest = back-rest;
       }
 
   pub sealed-acts : Carries (layoutOf (h .plan)) a (map (at (take (h .plan .n * h .plan .t) v)) (messages (layoutOf (h .plan)))) →
@@ -245,6 +265,7 @@ module _ {h : Held} {v m : List ℕ} (k : Kept h v m) (planned : h .planned ≡ 
           says = f ∙ ap (λ x. line sealedWord (x ∷ [])) (e ∙ sym (message-number (h .plan) g));
         };
         kept = back-kept (rw clear (no-marks-no-spare (layoutOf (h .plan)) (length (take ((h .plan .n * h .plan .t + 7) / 8) m))));
+        rest = back-rest;
       }
     where
       after : whole (h .plan) a b ≡ withBlock (stateOf h v m) a (replicate (markBytes (layoutOf (h .plan))) 0)

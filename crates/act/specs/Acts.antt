@@ -1,10 +1,10 @@
 -- The state of a job over lent buffers, and what it is to perform a command on them.
--- Main definitions: stateOf, Kept, Acts.
+-- Main definitions: stateOf, Kept, Rest, Acts.
 use mathlib.Core.Path.{_≡_}
 use mathlib.Core.Bool.{true}
 use mathlib.Core.List.{List}
 use Prim.Native.Nat.{ℕ, _*_}
-use lib.ListN.{length, take}
+use lib.ListN.{length, take, drop}
 use Rattle.plan.specs.Plans.{layoutOf, verdictOf}
 use Rattle.plan.specs.declared.Verdict.the-variants as verdict
 use Rattle.code.specs.Marks.{markBytes, NoSpare}
@@ -36,7 +36,13 @@ pub record Kept (h : Held) (v m : List ℕ) : Type 0 where
   pub block-long : length v ≡ blockLength
   pub marks-long : length m ≡ marksLength
 
+-- what stands past the state in the buffers is kept
+pub record Rest (h' : Held) (v m v' m' : List ℕ) : Type 0 where
+  pub block : drop (h' .plan .n * h' .plan .t) v' ≡ drop (h' .plan .n * h' .plan .t) v
+  pub marks : drop (markBytes (layoutOf (h' .plan))) m' ≡ drop (markBytes (layoutOf (h' .plan))) m
+
 -- a command that is not refused was performed: its meaning holds of the state before and after and of its text
 pub record Acts (c : Command) (h : Held) (v m text : List ℕ) (h' : Held) (v' m' : List ℕ) : Type 0 where
   pub means : Means c (stateOf h v m) (stateOf h' v' m') text
   pub kept : Kept h' v' m'
+  pub rest : Rest h' v m v' m'

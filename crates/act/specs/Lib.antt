@@ -5,3 +5,4 @@ pub mod Wholes
 pub mod StateLaws
 pub mod ActLaws
 pub mod RecoverLaws
+pub mod MeaningOnce

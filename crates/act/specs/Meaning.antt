@@ -14,7 +14,7 @@ use Rattle.promises.specs.declared.Recovery.the-variants as recovery
 use Rattle.lines.specs.Lines.{line, recoveredWord, looseWord, crossedWord, sealedWord, symbolWord, figuresWord}
 use Rattle.commands.specs.declared.Command.{Command}
 use Rattle.commands.specs.declared.Command.the-variants.{NewPlan, SetShift, SetSymbol, MarkOne, MarkRun, Recover, Seal, Show, Figures, Straight, Powers, Ruler}
-use Rattle.state.specs.State.{State, fresh, Marked, withPlan, withBlock}
+use Rattle.state.specs.State.{State, fresh, Marked, withShift, withPlan, withBlock}
 
 -- what recovery writes and leaves: "`recovered` and the count of marks; `loose` or `crossed`, count, list"; "success clears the marks"
 pub record Recovering (s s' : State) (text : List ℕ) : Type 0 where
@@ -56,8 +56,7 @@ pub record Marking (s s' : State) (v : List ℕ) (c k b : ℕ) : Type 0 where
 -- what a command that is not refused means: the state after it and what it writes
 unfoldable pub Means : Command → State → State → List ℕ → Type 0
 Means (NewPlan n t) s s' text = (s' ≡ fresh (made n t (replicate n 0) .plan)) × (text ≡ [])
-Means (SetShift j p) s s' text =
-    (s' ≡ withPlan s (record { n = s .plan .n; t = s .plan .t; shifts = set (s .plan .shifts) j p })) × (text ≡ [])
+Means (SetShift j p) s s' text = (s' ≡ withPlan s (withShift (s .plan) j p)) × (text ≡ [])
 Means (SetSymbol c v) s s' text = Marking s s' (set (s .block) c v) c 1 0 × (text ≡ [])
 Means (MarkOne c) s s' text = Marking s s' (s .block) c 1 1 × (text ≡ [])
 Means (MarkRun c m) s s' text = Marking s s' (s .block) c m 1 × (text ≡ [])

@@ -1,18 +1,18 @@
 -- What a command that is not refused says of the plan; the parts of the lent buffers that are the state.
 -- Main results: place-inside, mark-inside, show-inside, run-inside, shift-inside, has-plan, size-inside, number-good; places-most, bytes-most;
--- cleared-front, begun, marked-take.
+-- cleared-front, part-rest, begun, marked-take, marked-rest.
 use mathlib.Core.Path.{_≡_, refl, sym, _∙_, ap, subst}
-use mathlib.Core.Logic.{_⊎_, by-cases, ⊎-elim}
+use mathlib.Core.Logic.{_⊎_, inr, by-cases, ⊎-elim}
 use mathlib.Core.Bool.{Bool, true, false, cond}
 use mathlib.Core.List.{List, [], _++_}
-use Prim.Native.Nat.{ℕ, _+_, _*_, _/_, _%_, _≤_, _<_, min}
+use Prim.Native.Nat.{ℕ, zero, suc, _+_, _-_, _*_, _/_, _%_, _^_, _≤_, _<_, min}
 use native.Mathlib.Decide.{decLt}
 use native.Mathlib.Omega.{arith}
 use lib.Dec.{leb, ltb}
 use lib.ListN.{length, getD, set, take, drop, replicate, length-take, length-replicate, length-append, length-drop, List·getD-eq-default}
-use lib.Seq.{take-at, length-take-le, length-front, getD-take}
+use lib.Seq.{take-at, drop-at, length-take-le, length-front, getD-take, getD-drop, ext-getD}
 use borrow.Author.Tests.{ltb-true, leb-true}
-use Rattle.plan.specs.Bounds.{sizeFits}
+use Rattle.bounds.specs.Bounds.{sizeFits}
 use Rattle.plan.specs.Layout.{Layout, layout}
 use Rattle.plan.specs.Plans.{layoutOf, verdictOf, numberOf}
 use Rattle.plan.specs.PlanLaws.{good-bounds}
@@ -21,12 +21,13 @@ use Rattle.plan.specs.declared.Verdict.{Verdict}
 use Rattle.plan.specs.declared.Verdict.the-variants as verdict
 use Rattle.code.specs.Codewords.{bitOf}
 use Rattle.code.specs.Marks.{mark, markBytes, NoSpare}
+use Rattle.code.specs.Laws.MarksLaws.{bit-zero, bit-suc, mark-at}
 use Rattle.commands.specs.declared.Command.{Command}
 use Rattle.commands.specs.declared.Command.the-variants.{NewPlan, SetShift, SetSymbol, MarkOne, MarkRun, Recover, Seal, Show, Figures, Straight, Powers, Ruler}
 use Rattle.state.specs.State.{State, fresh, Marked}
 use Rattle.state.specs.Refusals.{early, refusalOf}
-use Rattle.state.specs.MarkedLaws.{no-marks-no-spare}
-use Rattle.act.specs.Acts.{stateOf, Kept, blockLength, marksLength}
+use Rattle.state.specs.MarkedLaws.{Bytes, no-marks-no-spare}
+use Rattle.act.specs.Acts.{stateOf, Kept, Rest, blockLength, marksLength}
 use Rattle.act.specs.declared.Held.{Held}
 
 -- ---- a command that is not refused
@@ -126,16 +127,21 @@ pub cleared-front : (k : ℕ) (v a : List ℕ) → k ≤ length v → a ≡ repl
 cleared-front k v a h e =
     part-back k v a h (ap length e ∙ length-replicate _ 0) ∙ e ∙ ap (λ x. replicate x 0) (length-take-le k v h)
 
+-- what stands past the part is kept
+pub part-rest : (k : ℕ) (v a : List ℕ) → k ≤ length v → length a ≡ length (take k v) → drop k (a ++ drop k v) ≡ drop k v
+part-rest k v a h e = drop-at a (drop k v) k (e ∙ length-take-le k v h)
+
 -- ---- a new plan
 
 abbrev pub holding : Plan → Held
 holding p = record { planned = true; plan = p }
 
-pub begun : (p : Plan) (v m : List ℕ) → verdictOf p ≡ verdict.Good → length v ≡ blockLength → length m ≡ marksLength →
-    take (p .n * p .t) v ≡ replicate (p .n * p .t) 0 → take ((p .n * p .t + 7) / 8) m ≡ replicate ((p .n * p .t + 7) / 8) 0 →
-    (stateOf (holding p) v m ≡ fresh p) × Kept (holding p) v m
+pub begun : (p : Plan) (v m v' m' : List ℕ) → verdictOf p ≡ verdict.Good → length v' ≡ blockLength → length m' ≡ marksLength →
+    take (p .n * p .t) v' ≡ replicate (p .n * p .t) 0 → take ((p .n * p .t + 7) / 8) m' ≡ replicate ((p .n * p .t + 7) / 8) 0 →
+    drop (p .n * p .t) v' ≡ drop (p .n * p .t) v → drop ((p .n * p .t + 7) / 8) m' ≡ drop ((p .n * p .t + 7) / 8) m →
+    (stateOf (holding p) v' m' ≡ fresh p) × Kept (holding p) v' m' × Rest (holding p) v m v' m'
 unfolding stateOf fresh markBytes layoutOf layout
-begun p v m g a b e f = (
+begun p v m v' m' g a b e f x y = (
   rw (e, f),
   record {
     good = λ _. g;
@@ -143,6 +149,7 @@ begun p v m g a b e f = (
     block-long = a;
     marks-long = b;
   },
+  record { block = x; marks = y },
 )
 
 -- ---- marks of the front part
@@ -174,3 +181,22 @@ marked-take j {m} {m'} {c} {k} {b} p h =
           (λ l. mark-front j m' d l ∙ p .others d o ∙ sym (mark-front j m d l))
           (λ n. mark-past j m' m d (omega arith));
     }
+
+-- ---- bytes past the marks
+
+-- numbers of k bits with the same bits are the same
+same-bits : (k x y : ℕ) → x < 2 ^ k → y < 2 ^ k → ((b : ℕ) → b < k → bitOf b x ≡ bitOf b y) → x ≡ y
+same-bits zero x y p q h = omega arith
+same-bits (suc k) x y p q h =
+    let e : x / 2 ≡ y / 2 = same-bits k (x / 2) (y / 2) (omega arith) (omega arith) (λ b l. sym (bit-suc b x) ∙ h (suc b) (omega arith) ∙ bit-suc b y) in
+    let f : x % 2 ≡ y % 2 = sym (bit-zero x) ∙ h 0 (omega arith) ∙ bit-zero y in
+    omega arith
+
+-- whole bytes past the places that were marked are kept
+pub marked-rest : (j : ℕ) {m m' : List ℕ} {c k b : ℕ} → Bytes m → Marked m c k b m' → c + k ≤ 8 * j → drop j m' ≡ drop j m
+marked-rest j {m} {m'} {c} {k} {b} w p h =
+    ext-getD 0 (drop j m') (drop j m) (length-drop j m' ∙ ap (λ x. x - j) (p .long) ∙ sym (length-drop j m))
+    (λ i _. getD-drop j m' i 0
+    ∙ same-bits 8 (getD m' (j + i) 0) (getD m (j + i) 0) (p .bytes (j + i)) (w (j + i))
+    (λ d l. sym (mark-at m' (j + i) d l) ∙ p .others (8 * (j + i) + d) (inr (omega arith)) ∙ mark-at m (j + i) d l)
+    ∙ sym (getD-drop j m i 0))

@@ -2,7 +2,7 @@
 ghost use mathlib.Core.Path.{_≡_};
 ghost use mathlib.Core.Bool.{true};
 ghost use mathlib.Core.List.{List, map};
-ghost use Prim.Native.Nat.{ℕ, _*_, _≤_};
+ghost use Prim.Native.Nat.{ℕ, _*_};
 ghost use lib.ListN.{length, take};
 ghost use Rattle.plan.specs.Layout.{messageCount};
 ghost use Rattle.plan.specs.Plans.{layoutOf, verdictOf};
@@ -12,7 +12,7 @@ ghost use Rattle.code.specs.Codewords.{at};
 ghost use Rattle.code.specs.Marks.{markBytes, NoSpare, erasures};
 ghost use Rattle.code.specs.Messages.{Carries};
 ghost use Rattle.code.specs.Laws.ParityCount.{messages};
-ghost use Rattle.lines.specs.Lines.{lineLength};
+ghost use Rattle.lines.specs.Lines.{lineLength, Wrote};
 ghost use Rattle.commands.specs.declared.Command.the-variants as commands;
 ghost use Rattle.state.specs.Refusals.{refusalOf};
 ghost use Rattle.act.specs.Acts.{stateOf, Kept, Acts};
@@ -38,7 +38,7 @@ use state::buffers::clear;
 
 pub fn tell_figures(held: Held, line: &mut [u8]) -> usize
     requires { ⌜ (length (now line) ≡ lineLength) × (verdictOf (held .plan) ≡ verdict.Good) ⌝ }
-    ensures { λ r. ⌜ ((v m : List ℕ) → Kept held v m → Acts commands.Figures held v m (take r (now (line .exit))) held v m) × (r ≤ lineLength) ⌝ }
+    ensures { λ r. ⌜ ((v m : List ℕ) → Kept held v m → Acts commands.Figures held v m (take r (now (line .exit))) held v m) × Wrote (now (line .entry)) (take r (now (line .exit))) (now (line .exit)) r ⌝ }
 {
     match figures(held.plan) {
         Answer::Are(four) => figures_line(
@@ -79,7 +79,7 @@ fn reseal(plan: Plan, count: usize, block: &mut [u8])
 
 pub fn seal_state(held: Held, block: &mut [u8], marks: &mut [u8], line: &mut [u8]) -> usize
     requires { ⌜ Kept held (now block) (now marks) × (length (now line) ≡ lineLength) × (held .planned ≡ true) ⌝ }
-    ensures { λ r. ⌜ Acts commands.Seal held (now (block .entry)) (now (marks .entry)) (take r (now (line .exit))) held (now (block .exit)) (now (marks .exit)) × (r ≤ lineLength) ⌝ }
+    ensures { λ r. ⌜ Acts commands.Seal held (now (block .entry)) (now (marks .entry)) (take r (now (line .exit))) held (now (block .exit)) (now (marks .exit)) × Wrote (now (line .entry)) (take r (now (line .exit))) (now (line .exit)) r ⌝ }
 {
     let plan = held.plan;
     let places = plan.n * plan.t;
@@ -110,7 +110,7 @@ fn recover_whole(
     witness: &mut [u16],
 ) -> usize
     requires { ⌜ Whole plan (now block) (now marks) × (length (now line) ≡ lineLength) × (length (now witness) ≡ 2 * plan .t) ⌝ }
-    ensures { λ r. ⌜ Recovered plan (now (block .entry)) (now (marks .entry)) (take r (now (line .exit))) (now (block .exit)) (now (marks .exit)) × (r ≤ lineLength) ⌝ }
+    ensures { λ r. ⌜ Recovered plan (now (block .entry)) (now (marks .entry)) (take r (now (line .exit))) (now (block .exit)) (now (marks .exit)) × Wrote (now (line .entry)) (take r (now (line .exit))) (now (line .exit)) r ⌝ }
 {
     let count = marked(plan, &marks[..]);
     match recover(plan, &mut block[..], &marks[..], &mut witness[..]) {
@@ -126,7 +126,7 @@ fn recover_whole(
 
 pub fn recover_state(held: Held, block: &mut [u8], marks: &mut [u8], line: &mut [u8]) -> usize
     requires { ⌜ Kept held (now block) (now marks) × (length (now line) ≡ lineLength) × (held .planned ≡ true) ⌝ }
-    ensures { λ r. ⌜ Acts commands.Recover held (now (block .entry)) (now (marks .entry)) (take r (now (line .exit))) held (now (block .exit)) (now (marks .exit)) × (r ≤ lineLength) ⌝ }
+    ensures { λ r. ⌜ Acts commands.Recover held (now (block .entry)) (now (marks .entry)) (take r (now (line .exit))) held (now (block .exit)) (now (marks .exit)) × Wrote (now (line .entry)) (take r (now (line .exit))) (now (line .exit)) r ⌝ }
 {
     let plan = held.plan;
     let places = plan.n * plan.t;

@@ -4,14 +4,14 @@ ghost use mathlib.Core.Bool.{true};
 ghost use mathlib.Core.List.{List, []};
 ghost use Prim.Native.Nat.{ℕ};
 ghost use lib.ListN.{length, replicate};
-ghost use Rattle.plan.specs.Bounds.{sizeFits};
+ghost use Rattle.bounds.specs.Bounds.{sizeFits};
 ghost use Rattle.plan.specs.Plans.{made, verdictOf};
 ghost use Rattle.plan.specs.declared.Verdict.the-variants as verdict;
 ghost use Rattle.commands.specs.declared.Command.the-variants as commands;
 ghost use Rattle.state.specs.State.{fresh};
 ghost use Rattle.state.specs.RefusalLaws.{bare};
 ghost use Rattle.state.specs.Refusals.{refusalOf};
-ghost use Rattle.act.specs.Acts.{blockLength, marksLength, stateOf, Kept, Acts};
+ghost use Rattle.act.specs.Acts.{blockLength, marksLength, stateOf, Kept, Rest, Acts};
 use crate::Held;
 use plan::Plan;
 use state::buffers::clear;
@@ -19,7 +19,7 @@ use state::buffers::clear;
 // The state of a new plan: symbols 0, no marks.
 fn begin(plan: Plan, block: &mut [u8], marks: &mut [u8]) -> Held
     requires { ⌜ (verdictOf plan ≡ verdict.Good) × (length (now block) ≡ blockLength) × (length (now marks) ≡ marksLength) ⌝ }
-    ensures { λ r. ⌜ (stateOf r (now (block .exit)) (now (marks .exit)) ≡ fresh plan) × Kept r (now (block .exit)) (now (marks .exit)) ⌝ }
+    ensures { λ r. ⌜ (stateOf r (now (block .exit)) (now (marks .exit)) ≡ fresh plan) × Kept r (now (block .exit)) (now (marks .exit)) × Rest r (now (block .entry)) (now (marks .entry)) (now (block .exit)) (now (marks .exit)) ⌝ }
 {
     let places = plan.n * plan.t;
     let bytes = (places + 7) / 8;

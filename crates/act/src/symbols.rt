@@ -1,11 +1,10 @@
 // Commands on single symbols and marks: 03, 04, 05, 08.
 ghost use mathlib.Core.Path.{_≡_};
 ghost use mathlib.Core.List.{[]};
-ghost use Prim.Native.Nat.{_≤_};
 ghost use lib.ListN.{length, take};
 ghost use mathlib.Core.List.{List};
 ghost use Prim.Native.Nat.{ℕ};
-ghost use Rattle.lines.specs.Lines.{lineLength};
+ghost use Rattle.lines.specs.Lines.{lineLength, Wrote};
 ghost use Rattle.commands.specs.declared.Command.the-variants as commands;
 ghost use Rattle.state.specs.Refusals.{refusalOf};
 ghost use Rattle.act.specs.Acts.{stateOf, Kept, Acts};
@@ -41,7 +40,7 @@ pub fn mark_run(held: Held, bits: &mut [u8], c: u16, m: u16)
 // What stands at the place, marked or not.
 pub fn show(held: Held, block: &[u8], line: &mut [u8], c: u16) -> usize
     requires { ⌜ (length (now line) ≡ lineLength) × ((m : List ℕ) × (Kept held (now block) m × (refusalOf (stateOf held (now block) m) (commands.Show c) ≡ 0))) ⌝ }
-    ensures { λ r. ⌜ ((m : List ℕ) → Kept held (now (block .entry)) m → Acts (commands.Show c) held (now (block .entry)) m (take r (now (line .exit))) held (now (block .entry)) m) × (r ≤ lineLength) ⌝ }
+    ensures { λ r. ⌜ ((m : List ℕ) → Kept held (now (block .entry)) m → Acts (commands.Show c) held (now (block .entry)) m (take r (now (line .exit))) held (now (block .entry)) m) × Wrote (now (line .entry)) (take r (now (line .exit))) (now (line .exit)) r ⌝ }
 {
     let at = c as usize;
     symbol_line(line, c, block[at])

@@ -38,7 +38,15 @@ commandOf s =
     (cond (eqb (one s 0) 0x0B) (Powers (one s 1) (two s 2) (two s 4))
     (Ruler (one s 1))))))))))))
 
--- what stands at the front of the bytes: 7 (unknown first byte) goes before 8 (the job ends inside a command)
+-- 7, command: "unknown first byte in a job"
+abbrev pub unknownNumber : ℕ
+unknownNumber = 7
+
+-- 8, short: "the job ends inside a command"
+abbrev pub shortNumber : ℕ
+shortNumber = 8
+
+-- what stands at the front of the bytes: an unknown first byte goes before a cut-off command
 unfoldable pub parsed : List ℕ → Parsed
 parsed [] = Nothing
 parsed (b ∷ rest) =

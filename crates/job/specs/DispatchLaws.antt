@@ -2,12 +2,12 @@
 -- Main results: refusal-is, new-any, straight-any, powers-any, ruler-any, shift-any; quiet-acts, told-acts.
 use mathlib.Core.Path.{_≡_, refl, sym, subst}
 use mathlib.Core.List.{List, []}
-use Prim.Native.Nat.{ℕ, _≤_}
-use native.Mathlib.Omega.{arith}
+use Prim.Native.Nat.{ℕ}
 use lib.ListN.{take}
 use Rattle.commands.specs.declared.Command.{Command}
 use Rattle.commands.specs.declared.Command.the-variants.{NewPlan, SetShift, Straight, Powers, Ruler}
-use Rattle.lines.specs.Lines.{lineLength}
+use Rattle.lines.specs.Lines.{Wrote}
+use Rattle.lines.specs.LinesLaws.{wrote-none}
 use Rattle.state.specs.State.{State}
 use Rattle.state.specs.Refusals.{refusalOf}
 use Rattle.act.specs.Acts.{stateOf, Acts}
@@ -40,9 +40,9 @@ unfolding refusalOf stateOf
 shift-any h v m v' m' j p e = e
 
 pub quiet-acts : {c k : Command} {h g a : Held} {v m v' m' : List ℕ} {n : ℕ} (l : List ℕ) → c ≡ k → Acts k h v m [] g v' m' → (a ≡ g) × (n ≡ 0) →
-    Acts c h v m (take n l) a v' m' × (n ≤ lineLength)
-quiet-acts {c} {k} {h} {g} {a} {v} {m} {v'} {m'} {n} l e r q = (rw (e, q .0, q .1) r, omega (arith, q .1))
+    Acts c h v m (take n l) a v' m' × Wrote l (take n l) l n
+quiet-acts {c} {k} {h} {g} {a} {v} {m} {v'} {m'} {n} l e r q = (rw (e, q .0, q .1) r, rw (q .1) (wrote-none l))
 
-pub told-acts : {c k : Command} {h a : Held} {v m v' m' : List ℕ} {n j : ℕ} (l : List ℕ) → c ≡ k → Acts k h v m (take j l) h v' m' × (j ≤ lineLength) → (a ≡ h) × (n ≡ j) →
-    Acts c h v m (take n l) a v' m' × (n ≤ lineLength)
-told-acts {c} {k} {h} {a} {v} {m} {v'} {m'} {n} {j} l e r q = (rw (e, q .0, q .1) (r .0), omega (arith, q .1, r .1))
+pub told-acts : {c k : Command} {h a : Held} {v m v' m' : List ℕ} {n j : ℕ} (l l' : List ℕ) → c ≡ k →
+    Acts k h v m (take j l') h v' m' × Wrote l (take j l') l' j → (a ≡ h) × (n ≡ j) → Acts c h v m (take n l') a v' m' × Wrote l (take n l') l' n
+told-acts {c} {k} {h} {a} {v} {m} {v'} {m'} {n} {j} l l' e r q = (rw (e, q .0, q .1) (r .0), rw (q .1) (r .1))

@@ -1,16 +1,21 @@
--- The sheet of a whole job: the chain of its commands' lines.
+-- The sheet of a whole job: the chain of its commands' lines. The sheet of a job b is x where Sheet 0 start b x; it is one text (one-sheet, OneSheet).
 use mathlib.Core.Path.{_≡_}
 use mathlib.Core.Logic.{_≢_}
+use mathlib.Core.Bool.{false}
 use mathlib.Core.List.{List, [], _∷_, _++_}
 use Prim.Native.Nat.{ℕ, _+_}
-use lib.ListN.{drop, getD}
-use Rattle.commands.specs.Commands.{sizeOf, parsed}
+use lib.ListN.{drop, getD, replicate}
+use Rattle.commands.specs.Commands.{sizeOf, parsed, unknownNumber, shortNumber}
 use Rattle.lines.specs.Lines.{line, refusedWord, endWord}
 use Rattle.state.specs.State.{State}
 use Rattle.state.specs.Refusals.{refusalOf}
 use Rattle.act.specs.Meaning.{Means}
 use Rattle.commands.specs.declared.Command.{Command}
 use Rattle.commands.specs.declared.Parsed.the-variants.{Whole, Unknown, Short}
+
+-- before the first plan there is none: no symbols, no marks
+unfoldable pub start : State
+start = record { planned = false; plan = record { n = 0; t = 0; shifts = replicate 32 0 }; block = []; marks = [] }
 
 -- "`refused`, number, offset of the command's first byte"
 unfoldable pub refusedLine : ℕ → ℕ → List ℕ
@@ -21,8 +26,8 @@ pub data Sheet : ℕ → State → List ℕ → List ℕ → Type 0 where
   -- "`end` closes a job that ran out at a command's boundary"
   ends : {o : ℕ} {s : State} → Sheet o s [] (line endWord [])
   -- "7, 8, 9, then the others"; "After `refused` the job stops"
-  unknown : {o : ℕ} {s : State} {b : List ℕ} → parsed b ≡ Unknown → Sheet o s b (refusedLine 7 o)
-  short : {o : ℕ} {s : State} {b : List ℕ} → parsed b ≡ Short → Sheet o s b (refusedLine 8 o)
+  unknown : {o : ℕ} {s : State} {b : List ℕ} → parsed b ≡ Unknown → Sheet o s b (refusedLine unknownNumber o)
+  short : {o : ℕ} {s : State} {b : List ℕ} → parsed b ≡ Short → Sheet o s b (refusedLine shortNumber o)
   refused : {o : ℕ} {s : State} {b : List ℕ} (c : Command) → parsed b ≡ Whole c → refusalOf s c ≢ 0 → Sheet o s b (refusedLine (refusalOf s c) o)
   -- a command that is not refused writes its line, and the rest follows from the state after it
   goes-on : {o : ℕ} {s : State} {b : List ℕ} (s' : State) (text rest : List ℕ) (c : Command) → parsed b ≡ Whole c → refusalOf s c ≡ 0 → Means c s s' text →

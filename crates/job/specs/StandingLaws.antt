@@ -9,7 +9,7 @@ use lib.Dec.{eqb}
 use lib.ListN.{length, getD, take}
 use lib.Seq.{length-take-le, getD-take}
 use borrow.Author.Tests.{eq-eqb, ne-eqb, eqb-true, not-true, not-false}
-use Rattle.plan.specs.Tests.{and-left, and-right}
+use Rattle.math.specs.Tests.{and-left, and-right}
 use Rattle.plan.specs.Layout.{layout}
 use Rattle.plan.specs.Plans.{layoutOf, verdictOf}
 use Rattle.plan.specs.PlanLaws.{good-bounds}

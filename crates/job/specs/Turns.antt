@@ -4,7 +4,7 @@ use mathlib.Core.Path.{_≡_}
 use mathlib.Core.Logic.{_≢_}
 use mathlib.Core.Bool.{Bool, true, false, cond, _&&_}
 use mathlib.Core.List.{List, []}
-use Prim.Native.Nat.{ℕ, _+_, _*_, _/_, _≤_}
+use Prim.Native.Nat.{ℕ, _+_, _*_, _/_}
 use lib.Dec.{eqb}
 use lib.ListN.{length, getD, take}
 use Rattle.plan.specs.Plans.{verdictOf}
@@ -15,10 +15,10 @@ use Rattle.calls.specs.declared.Refusal.{Refusal}
 use Rattle.calls.specs.declared.Refusal.the-variants as refusal
 use Rattle.calls.specs.declared.Check.{Check}
 use Rattle.calls.specs.declared.Check.the-variants as check
-use Rattle.commands.specs.Commands.{sizeOf, parsed}
+use Rattle.commands.specs.Commands.{sizeOf, parsed, unknownNumber, shortNumber}
 use Rattle.commands.specs.declared.Command.{Command}
 use Rattle.commands.specs.declared.Parsed.the-variants.{Whole, Unknown, Short, Nothing}
-use Rattle.lines.specs.Lines.{line, endWord, lineLength}
+use Rattle.lines.specs.Lines.{line, endWord, lineLength, Wrote}
 use Rattle.state.specs.Refusals.{refusalOf}
 use Rattle.act.specs.Acts.{blockLength, marksLength, stateOf, Acts}
 use Rattle.act.specs.declared.Held.{Held}
@@ -44,12 +44,11 @@ heldCheck h v m l =
     (checkBy (verdictOf (h .plan)) (buffersFit v m l) (noneFrom (take ((h .plan .n * h .plan .t + 7) / 8) m) (h .plan .n * h .plan .t)))
     (cond (buffersFit v m l) check.Pass (check.Stop refusal.Length))
 
--- the job stops: the line at the front of l' is `refused` with this number and offset
-pub record Stops (number offset : ℕ) (turn : Turn) (l' : List ℕ) : Type 0 where
+-- the job stops: the line `refused` was written, with this number and offset
+pub record Stops (number offset : ℕ) (l : List ℕ) (turn : Turn) (l' : List ℕ) : Type 0 where
   pub count : ℕ
   pub stopped : turn ≡ Stop count
-  pub within : count ≤ lineLength
-  pub says : take count l' ≡ refusedLine number offset
+  pub wrote : Wrote l (refusedLine number offset) l' count
 
 -- nothing but the line may have changed
 pub record Same (h : Held) (v m : List ℕ) (h' : Held) (v' m' : List ℕ) : Type 0 where
@@ -57,36 +56,36 @@ pub record Same (h : Held) (v m : List ℕ) (h' : Held) (v' m' : List ℕ) : Typ
   pub block : v' ≡ v
   pub marks : m' ≡ m
 
--- the job ends: the line is `end`
-pub record Ends (turn : Turn) (l' : List ℕ) : Type 0 where
+-- the job ends: the line `end` was written
+pub record Ends (l : List ℕ) (turn : Turn) (l' : List ℕ) : Type 0 where
   pub count : ℕ
   pub ended : turn ≡ End count
-  pub within : count ≤ lineLength
-  pub says : take count l' ≡ line endWord []
+  pub wrote : Wrote l (line endWord []) l' count
 
--- the command was performed, and these bytes of it were used
-pub record Goes (c : Command) (size : ℕ) (h : Held) (v m : List ℕ) (turn : Turn) (h' : Held) (v' m' l' : List ℕ) : Type 0 where
+-- the command was performed, its text was written, and these bytes of it were used; where the text is empty the line buffer is as before
+pub record Goes (c : Command) (size : ℕ) (h : Held) (v m l : List ℕ) (turn : Turn) (h' : Held) (v' m' l' : List ℕ) : Type 0 where
   pub count : ℕ
   pub on : turn ≡ On size count
-  pub within : count ≤ lineLength
-  pub acts : Acts c h v m (take count l') h' v' m'
+  pub text : List ℕ
+  pub wrote : Wrote l text l' count
+  pub acts : Acts c h v m text h' v' m'
 
 -- A turn on a state that nothing refuses, by what stands at the front of the bytes b.
-pub record Turns (h : Held) (v m b : List ℕ) (last : Bool) (offset : ℕ) (turn : Turn) (h' : Held) (v' m' l' : List ℕ) : Type 0 where
+pub record Turns (h : Held) (v m l b : List ℕ) (last : Bool) (offset : ℕ) (turn : Turn) (h' : Held) (v' m' l' : List ℕ) : Type 0 where
   -- more bytes may come, and those at hand are none or end inside a command
-  pub nothing-yet : parsed b ≡ Nothing → last ≡ false → (turn ≡ Wait) × Same h v m h' v' m'
-  pub cut-yet : parsed b ≡ Short → last ≡ false → (turn ≡ Wait) × Same h v m h' v' m'
+  pub nothing-yet : parsed b ≡ Nothing → last ≡ false → (turn ≡ Wait) × Same h v m h' v' m' × (l' ≡ l)
+  pub cut-yet : parsed b ≡ Short → last ≡ false → (turn ≡ Wait) × Same h v m h' v' m' × (l' ≡ l)
   -- "`end` closes a job that ran out at a command's boundary"
-  pub ends : parsed b ≡ Nothing → last ≡ true → Ends turn l' × Same h v m h' v' m'
+  pub ends : parsed b ≡ Nothing → last ≡ true → Ends l turn l' × Same h v m h' v' m'
   -- 7, "unknown first byte in a job"; 8, "the job ends inside a command"; then 9 and the others of the command
-  pub unknown : parsed b ≡ Unknown → Stops 7 offset turn l' × Same h v m h' v' m'
-  pub short : parsed b ≡ Short → last ≡ true → Stops 8 offset turn l' × Same h v m h' v' m'
+  pub unknown : parsed b ≡ Unknown → Stops unknownNumber offset l turn l' × Same h v m h' v' m'
+  pub short : parsed b ≡ Short → last ≡ true → Stops shortNumber offset l turn l' × Same h v m h' v' m'
   pub refused : (c : Command) → parsed b ≡ Whole c → refusalOf (stateOf h v m) c ≢ 0 →
-      Stops (refusalOf (stateOf h v m) c) offset turn l' × Same h v m h' v' m'
+      Stops (refusalOf (stateOf h v m) c) offset l turn l' × Same h v m h' v' m'
   -- otherwise the command is performed
-  pub goes-on : (c : Command) → parsed b ≡ Whole c → refusalOf (stateOf h v m) c ≡ 0 → Goes c (sizeOf (getD b 0 0)) h v m turn h' v' m' l'
+  pub goes-on : (c : Command) → parsed b ≡ Whole c → refusalOf (stateOf h v m) c ≡ 0 → Goes c (sizeOf (getD b 0 0)) h v m l turn h' v' m' l'
 
 -- perform: what refuses the lent state leaves everything as it was; otherwise a turn
 pub record Performs (h : Held) (v m l b : List ℕ) (last : Bool) (offset : ℕ) (turn : Turn) (h' : Held) (v' m' l' : List ℕ) : Type 0 where
   pub bad : (x : Refusal) → heldCheck h v m l ≡ check.Stop x → (turn ≡ Bad x) × Same h v m h' v' m' × (l' ≡ l)
-  pub passed : heldCheck h v m l ≡ check.Pass → Turns h v m b last offset turn h' v' m' l'
+  pub passed : heldCheck h v m l ≡ check.Pass → Turns h v m l b last offset turn h' v' m' l'

@@ -1,9 +1,8 @@
 // A command that is not refused, performed by the function that is its own.
 // Public for the tests of it only.
 ghost use mathlib.Core.Path.{_≡_};
-ghost use Prim.Native.Nat.{_≤_};
 ghost use lib.ListN.{length, take};
-ghost use Rattle.lines.specs.Lines.{lineLength};
+ghost use Rattle.lines.specs.Lines.{lineLength, Wrote};
 ghost use Rattle.state.specs.Refusals.{refusalOf};
 ghost use Rattle.act.specs.Acts.{stateOf, Kept, Acts};
 use act::Held;
@@ -26,7 +25,7 @@ pub fn dispatch(
     command: Command,
 ) -> Done
     requires { ⌜ Kept held (now block) (now marks) × (length (now line) ≡ lineLength) × (refusalOf (stateOf held (now block) (now marks)) command ≡ 0) ⌝ }
-    ensures { λ r. ⌜ Acts command held (now (block .entry)) (now (marks .entry)) (take (r .count) (now (line .exit))) (r .held) (now (block .exit)) (now (marks .exit)) × (r .count ≤ lineLength) ⌝ }
+    ensures { λ r. ⌜ Acts command held (now (block .entry)) (now (marks .entry)) (take (r .count) (now (line .exit))) (r .held) (now (block .exit)) (now (marks .exit)) × Wrote (now (line .entry)) (take (r .count) (now (line .exit))) (now (line .exit)) (r .count) ⌝ }
 {
     match command {
         Command::NewPlan { n, t } => quiet(plans::new_plan(n, t, block, marks)),

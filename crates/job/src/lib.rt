@@ -73,7 +73,7 @@ fn take_turn(
     offset: u64,
 ) -> Step
     requires { ⌜ Kept held (now block) (now marks) × (length (now line) ≡ lineLength) ⌝ }
-    ensures { λ r. ⌜ Turns held (now (block .entry)) (now (marks .entry)) (now (bytes .entry)) last offset (r .turn) (r .held) (now (block .exit)) (now (marks .exit)) (now (line .exit)) ⌝ }
+    ensures { λ r. ⌜ Turns held (now (block .entry)) (now (marks .entry)) (now (line .entry)) (now (bytes .entry)) last offset (r .turn) (r .held) (now (block .exit)) (now (marks .exit)) (now (line .exit)) ⌝ }
 {
     match parse(bytes) {
         Parsed::Nothing => at_end(held, line, last),
@@ -96,7 +96,7 @@ fn size_at(bytes: &[u8]) -> usize
 // No bytes are at hand.
 fn at_end(held: Held, line: &mut [u8], last: bool) -> Step
     requires { ⌜ length (now line) ≡ lineLength ⌝ }
-    ensures { λ r. ⌜ ((v m b : List ℕ) (offset : ℕ) → parsed b ≡ parsedAs.Nothing → Turns held v m b last offset (r .turn) (r .held) v m (now (line .exit))) ⌝ }
+    ensures { λ r. ⌜ ((v m b : List ℕ) (offset : ℕ) → parsed b ≡ parsedAs.Nothing → Turns held v m (now (line .entry)) b last offset (r .turn) (r .held) v m (now (line .exit))) ⌝ }
 {
     if !last {
         return Step {
@@ -114,7 +114,7 @@ fn at_end(held: Held, line: &mut [u8], last: bool) -> Step
 // The bytes end inside a command.
 fn cut_off(held: Held, line: &mut [u8], last: bool, offset: u64) -> Step
     requires { ⌜ length (now line) ≡ lineLength ⌝ }
-    ensures { λ r. ⌜ ((v m b : List ℕ) → parsed b ≡ parsedAs.Short → Turns held v m b last offset (r .turn) (r .held) v m (now (line .exit))) ⌝ }
+    ensures { λ r. ⌜ ((v m b : List ℕ) → parsed b ≡ parsedAs.Short → Turns held v m (now (line .entry)) b last offset (r .turn) (r .held) v m (now (line .exit))) ⌝ }
 {
     if !last {
         return Step {
@@ -128,7 +128,7 @@ fn cut_off(held: Held, line: &mut [u8], last: bool, offset: u64) -> Step
 // The refusal is written; nothing else changes.
 fn stop(held: Held, line: &mut [u8], number: u8, offset: u64) -> Step
     requires { ⌜ length (now line) ≡ lineLength ⌝ }
-    ensures { λ r. ⌜ (r .held ≡ held) × Stops number offset (r .turn) (now (line .exit)) ⌝ }
+    ensures { λ r. ⌜ (r .held ≡ held) × Stops number offset (now (line .entry)) (r .turn) (now (line .exit)) ⌝ }
 {
     let count = refused_line(line, number, offset);
     Step {
@@ -148,7 +148,7 @@ fn go(
     offset: u64,
 ) -> Step
     requires { ⌜ Kept held (now block) (now marks) × (length (now line) ≡ lineLength) ⌝ }
-    ensures { λ r. ⌜ ((b : List ℕ) (last : Bool) → parsed b ≡ parsedAs.Whole command → size ≡ sizeOf (getD b 0 0) → Turns held (now (block .entry)) (now (marks .entry)) b last offset (r .turn) (r .held) (now (block .exit)) (now (marks .exit)) (now (line .exit))) ⌝ }
+    ensures { λ r. ⌜ ((b : List ℕ) (last : Bool) → parsed b ≡ parsedAs.Whole command → size ≡ sizeOf (getD b 0 0) → Turns held (now (block .entry)) (now (marks .entry)) (now (line .entry)) b last offset (r .turn) (r .held) (now (block .exit)) (now (marks .exit)) (now (line .exit))) ⌝ }
 {
     let planned = held.planned;
     let plan = held.plan;

@@ -1,5 +1,5 @@
 -- Lines are put together piece by piece, and each line fits the line buffer.
--- Main results: appends-both, appends-next, appends-entry, begun, more, more-list, ended, fields-length, line-length, line-fits.
+-- Main results: appends-both, appends-next, appends-entry, begun, more, more-list, ended, wrote-front, wrote-none, wrote-empty, fields-length, line-length, line-fits.
 use mathlib.Core.Path.{_≡_, refl, sym, _∙_, ap, subst}
 use mathlib.Core.List.{List, [], _∷_, _++_, append-nil, append-assoc}
 use Prim.Native.Nat.{ℕ, suc, _+_, _*_, _≤_, _<_}
@@ -7,7 +7,7 @@ use native.Mathlib.Nat.{add-zero, add-assoc}
 use native.Mathlib.Numerals.{add-one}
 use native.Mathlib.Omega.{arith}
 use lib.ListN.{length, getD, take, drop, set, length-append, length-set, length-take}
-use lib.Seq.{take-suc, take-suc-set, drop-set-lt, drop-drop}
+use lib.Seq.{length-take-le, take-suc, take-suc-set, drop-set-lt, drop-drop}
 use Rattle.io.specs.Digits.{digits}
 use Rattle.lines.specs.Lines.{widthFrom, decimal, fields, line, lineLength, Wrote, Appends}
 use Rattle.lines.specs.DecimalLaws.{length-decimal-5, length-decimal-is, decimal-is}
@@ -112,6 +112,20 @@ more n {l} {l'} {l''} {word} {ns} {x} {y} a b = more-list (n ∷ []) a (subst (�
 pub ended : {l l' l'' word ns : List ℕ} {x y : ℕ} → Begun l word ns l' x → Appends l' x (10 ∷ []) l'' y → Wrote l (line word ns) l'' y
 unfolding line
 ended a b = let both = appends-both (a .so-far) b in record { text-stands = both .text-stands; within = appends-within both; long = both .long; rest = both .rest }
+
+-- ---- what was written, by the buffer alone
+
+pub wrote-front : {l l' text : List ℕ} {n : ℕ} → Wrote l text l' n → Wrote l (take n l') l' n
+wrote-front w = record { text-stands = refl; within = w .within; long = w .long; rest = w .rest }
+
+pub wrote-none : (l : List ℕ) → Wrote l [] l 0
+wrote-none l = record { text-stands = refl; within = omega arith; long = refl; rest = refl }
+
+-- no text: the buffer is as before
+pub wrote-empty : {l l' : List ℕ} {n : ℕ} → Wrote l [] l' n → (n ≡ 0) × (l' ≡ l)
+wrote-empty {l} {l'} {n} w =
+    let e : n ≡ 0 = sym (length-take-le n l' (w .within)) ∙ ap length (w .text-stands) in
+    (e, subst (λ x. drop x l' ≡ drop x l) e (w .rest))
 
 -- ---- lengths
 

@@ -2,4 +2,5 @@
 pub mod State
 pub mod Refusals
 pub mod MarkedLaws
+pub mod MarkedOnce
 pub mod RefusalLaws

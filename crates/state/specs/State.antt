@@ -4,7 +4,7 @@ use mathlib.Core.Logic.{_⊎_}
 use mathlib.Core.Bool.{Bool, true}
 use mathlib.Core.List.{List}
 use Prim.Native.Nat.{ℕ, _+_, _*_, _≤_, _<_}
-use lib.ListN.{length, getD, replicate}
+use lib.ListN.{length, getD, set, replicate}
 use Rattle.plan.specs.Plans.{layoutOf}
 use Rattle.plan.specs.declared.Plan.{Plan}
 use Rattle.code.specs.Marks.{mark, markBytes}
@@ -26,6 +26,10 @@ pub record Marked (m : List ℕ) (c k b : ℕ) (m' : List ℕ) : Type 0 where
   pub bytes : (i : ℕ) → getD m' i 0 < 256
   pub these : (d : ℕ) → c ≤ d → d < c + k → mark m' d ≡ b
   pub others : (d : ℕ) → (d < c) ⊎ (c + k ≤ d) → mark m' d ≡ mark m d
+
+-- the plan with p for the shift of section j
+unfoldable pub withShift : Plan → ℕ → ℕ → Plan
+withShift plan j p = record { n = plan .n; t = plan .t; shifts = set (plan .shifts) j p }
 
 -- the state with another plan, block or marks
 unfoldable pub withPlan : State → Plan → State

@@ -3,7 +3,7 @@ ghost use mathlib.Core.Path.{_≡_};
 ghost use mathlib.Core.Bool.{true, cond};
 ghost use Prim.Native.Nat.{_+_, _*_};
 ghost use lib.Dec.{leb, ltb};
-ghost use Rattle.plan.specs.Bounds.{sizeFits};
+ghost use Rattle.bounds.specs.Bounds.{sizeFits};
 ghost use Rattle.plan.specs.Plans.{numberOf, straightOf, powersOf, rulerOf};
 ghost use Rattle.state.specs.State.{State};
 ghost use Rattle.state.specs.Refusals.{early, refusalOf};
@@ -35,7 +35,7 @@ pub fn refusal(planned: bool, plan: Plan, command: Command) -> u8
 fn size(n: usize, t: usize) -> u8
     ensures { λ r. ⌜ r ≡ cond (sizeFits n t) 0 1 ⌝ }
 {
-    if plan::bounds::size_fits(n, t) { 0 } else { 1 }
+    if bounds::size_fits(n, t) { 0 } else { 1 }
 }
 
 fn no_plan(planned: bool) -> u8

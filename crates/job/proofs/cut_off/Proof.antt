@@ -7,7 +7,7 @@ use Rattle.job.proofs.cut_off.Statement.{statement}
 use Rattle.job.proofs.cut_off.Tie as tie
 
 returns : tie.Need-returns
-returns c = λ v m b p. on-cut-yet p (not-true _ (c .if1 .taken)) refl (same _ _ _)
+returns c = λ v m b p. on-cut-yet p (not-true _ (c .if1 .taken)) refl (same _ _ _) refl
 
 stop-requires : tie.Need-stop-requires
 stop-requires c κs = c .before .before .before .pre

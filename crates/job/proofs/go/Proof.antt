@@ -34,7 +34,7 @@ same-length-4 c = c .before .before .before .before .before .before .before .dis
 
 returns-2 : tie.Need-returns-2
 unfolding stateOf
-returns-2 c = λ b last p e. on-acts _ _ p e (sym (c .before .before .before .before .before .before .before .before .before .before .before .before .refusal .ensures _ refl refl) ∙ c .before .before .before .before .before .before .before .before .before .before .before .if1 .left) (record { count = _; on = refl; within = c .before .before .before .before .before .before .before .dispatch .ensures .1; acts = c .before .before .before .before .before .before .before .dispatch .ensures .0 })
+returns-2 c = λ b last p e. on-acts _ _ p e (sym (c .before .before .before .before .before .before .before .before .before .before .before .before .refusal .ensures _ refl refl) ∙ c .before .before .before .before .before .before .before .before .before .before .before .if1 .left) (record { count = _; on = refl; text = _; wrote = c .before .before .before .before .before .before .before .dispatch .ensures .1; acts = c .before .before .before .before .before .before .before .dispatch .ensures .0 })
 
 pub go-spec : {M : Type 1} → statement M
 go-spec = tie.close (tie.spec refusal-requires stop-requires same-length returns dispatch-requires same-length-2 same-length-3 same-length-4 returns-2)

@@ -13,7 +13,7 @@ same-length : tie.Need-same-length
 same-length c = search needs
 
 returns : tie.Need-returns
-returns c = (refl, says-refused _ _ _ (c .before .before .before .before .before .pre) (c .before .before .refused-line .ensures))
+returns c = (refl, says-refused _ _ _ (c .before .before .refused-line .ensures))
 
 pub stop-spec : {M : Type 1} → statement M
 stop-spec = tie.close (tie.spec refused-line-requires same-length returns)

@@ -2,6 +2,7 @@
 use mathlib.Core.Path.{_≡_, refl, sym, _∙_}
 use native.Mathlib.Omega.{arith}
 use Rattle.act.specs.RecoverLaws.{loose-within, crossed-within, on-recovered, on-loose, on-crossed, on-refused}
+use Rattle.lines.specs.LinesLaws.{wrote-front}
 use borrow.Author.Needs.{needs}
 use Rattle.act.proofs.blocks.recover_whole.Statement.{statement}
 use Rattle.act.proofs.blocks.recover_whole.Tie as tie
@@ -49,7 +50,7 @@ same-length-4 : tie.Need-same-length-4
 same-length-4 c = c .before .before .before .before .before .before .before .before .before .before .before .before .before .before .recover .kept .1 .1 .1 .0
 
 returns : tie.Need-returns
-returns c = let p = c .before .before .before .before .before .before .before .before .before .before .before .before .before .before .before .before .before .before .before .before .before .before .before .before .pre in let e = c .before .before .recovered-line .ensures in (on-recovered _ _ _ _ (p .0) (p .2) (c .before .before .before .before .before .before .before .before .before .before .before .before .before .before .recover .ensures) (c .before .before .before .before .before .before .before .before .enum-told .given .1) (c .before .before .before .before .before .before .before .before .before .before .before .before .before .before .before .before .before .before .marked .ensures) (c .before .before .before .before .before .before .clear .ensures) (e .text-stands), omega (arith, e .within, e .long, p .1))
+returns c = let p = c .before .before .before .before .before .before .before .before .before .before .before .before .before .before .before .before .before .before .before .before .before .before .before .before .pre in let e = c .before .before .recovered-line .ensures in (on-recovered _ _ _ _ (p .0) (p .2) (c .before .before .before .before .before .before .before .before .before .before .before .before .before .before .recover .ensures) (c .before .before .before .before .before .before .before .before .enum-told .given .1) (c .before .before .before .before .before .before .before .before .before .before .before .before .before .before .before .before .before .before .marked .ensures) (c .before .before .before .before .before .before .clear .ensures) (e .text-stands), wrote-front e)
 
 same-length-5 : tie.Need-same-length-5
 same-length-5 c = c .before .before .before .before .before .before .before .before .before .before .before .before .recover .kept .1 .0
@@ -64,7 +65,7 @@ same-length-8 : tie.Need-same-length-8
 same-length-8 c = c .before .before .before .before .before .before .before .before .before .before .before .before .recover .kept .1 .1 .1 .0
 
 returns-2 : tie.Need-returns-2
-returns-2 c = let p = c .before .before .before .before .before .before .before .before .before .before .before .before .before .before .before .before .before .before .before .before .before .before .pre in let e = c .before .before .crossed-line .ensures in (on-crossed _ _ _ _ (p .0) (p .2) (c .before .before .before .before .before .before .before .before .before .before .before .before .recover .ensures) _ (c .before .before .before .before .before .before .z .given .1) (e .text-stands), omega (arith, e .within, e .long, p .1))
+returns-2 c = let p = c .before .before .before .before .before .before .before .before .before .before .before .before .before .before .before .before .before .before .before .before .before .before .pre in let e = c .before .before .crossed-line .ensures in (on-crossed _ _ _ _ (p .0) (p .2) (c .before .before .before .before .before .before .before .before .before .before .before .before .recover .ensures) _ (c .before .before .before .before .before .before .z .given .1) (e .text-stands), wrote-front e)
 
 same-length-9 : tie.Need-same-length-9
 same-length-9 c = c .before .before .before .before .before .before .before .before .before .before .before .before .recover .kept .1 .0
@@ -79,7 +80,7 @@ same-length-12 : tie.Need-same-length-12
 same-length-12 c = c .before .before .before .before .before .before .before .before .before .before .before .before .recover .kept .1 .1 .1 .0
 
 returns-3 : tie.Need-returns-3
-returns-3 c = let p = c .before .before .before .before .before .before .before .before .before .before .before .before .before .before .before .before .before .before .before .before .before .before .pre in let e = c .before .before .loose-line .ensures in (on-loose _ _ _ _ (p .0) (p .2) (c .before .before .before .before .before .before .before .before .before .before .before .before .recover .ensures) _ (c .before .before .before .before .before .before .z2 .given .1) (e .text-stands), omega (arith, e .within, e .long, p .1))
+returns-3 c = let p = c .before .before .before .before .before .before .before .before .before .before .before .before .before .before .before .before .before .before .before .before .before .before .pre in let e = c .before .before .loose-line .ensures in (on-loose _ _ _ _ (p .0) (p .2) (c .before .before .before .before .before .before .before .before .before .before .before .before .recover .ensures) _ (c .before .before .before .before .before .before .z2 .given .1) (e .text-stands), wrote-front e)
 
 same-length-13 : tie.Need-same-length-13
 same-length-13 c = c .before .before .before .before .before .before .recover .kept .1 .0

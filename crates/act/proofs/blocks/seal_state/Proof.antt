@@ -3,6 +3,7 @@ use mathlib.Core.Path.{_≡_, refl, sym, _∙_}
 use native.Mathlib.Omega.{arith}
 use Rattle.act.specs.StateLaws.{places-most, places-fit, bytes-fit, front-long}
 use Rattle.act.specs.ActLaws.{lent-whole, sealed-acts}
+use Rattle.lines.specs.LinesLaws.{wrote-front}
 use borrow.Author.Needs.{needs}
 use Rattle.act.proofs.blocks.seal_state.Statement.{statement}
 use Rattle.act.proofs.blocks.seal_state.Tie as tie
@@ -51,7 +52,7 @@ returns c =
     let p = c .before .before .before .before .before .before .before .before .before .before .before .before .before .before .before .before .before .before .pre in
     let e = c .before .before .sealed-line .ensures in (
       sealed-acts (p .0) (p .2) _ _ (c .before .before .before .before .before .before .before .before .before .before .reseal .kept .1 .1 .0) (c .before .before .before .before .before .before .clear .kept .0) (c .before .before .before .before .before .before .before .before .before .before .reseal .ensures) (c .before .before .before .before .before .before .clear .ensures) (c .before .before .before .before .before .before .before .before .before .before .before .before .message-length .ensures) (e .text-stands),
-      omega (arith, e .within, e .long, p .1),
+      wrote-front e,
     )
 
 pub seal-state-spec : {M : Type 1} → statement M

@@ -1,7 +1,7 @@
 -- The four figures of the plan are written.
-use native.Mathlib.Omega.{arith}
 use Rattle.act.specs.ActLaws.{figured}
 use Rattle.act.specs.RecoverLaws.{figures-are, figures-never}
+use Rattle.lines.specs.LinesLaws.{wrote-front}
 use borrow.Author.Needs.{needs}
 use Rattle.act.proofs.blocks.tell_figures.Statement.{statement}
 use Rattle.act.proofs.blocks.tell_figures.Tie as tie
@@ -25,7 +25,7 @@ returns : tie.Need-returns
 returns c =
     let p = c .before .before .before .before .before .before .before .before .before .pre in
     let e = c .before .before .figures-line .ensures in
-    (λ v m k. figured k _ _ _ _ (figures-are _ _ (c .before .before .before .before .before .before .before .figures .ensures) (p .1) (c .before .before .before .before .before .four .given .1)) (e .text-stands), omega (arith, e .within, e .long, p .0))
+    (λ v m k. figured k _ _ _ _ (figures-are _ _ (c .before .before .before .before .before .before .before .figures .ensures) (p .1) (c .before .before .before .before .before .four .given .1)) (e .text-stands), wrote-front e)
 
 returns-2 : tie.Need-returns-2
 returns-2 c = absurd (figures-never _ _ (c .before .before .figures .ensures) (c .before .before .before .before .pre .1) (c .enum-told .given .1))

@@ -2,7 +2,7 @@
 use mathlib.Core.Path.{_≡_, refl, sym, _∙_}
 use native.Mathlib.Omega.{arith}
 use Prim.Native.Nat.{_+_, _*_, _/_}
-use Rattle.act.specs.StateLaws.{places-most, places-fit, bytes-fit, front-long, cleared-front, part-long, begun}
+use Rattle.act.specs.StateLaws.{places-most, places-fit, bytes-fit, front-long, cleared-front, part-long, part-rest, begun}
 use borrow.Author.Needs.{needs}
 use Rattle.act.proofs.plans.begin.Statement.{statement}
 use Rattle.act.proofs.plans.begin.Tie as tie
@@ -47,7 +47,7 @@ returns c =
     let y = c .before .before .clear2 in
     let a = places-fit _ (p .0) v (p .1) in
     let b = bytes-fit _ (p .0) m (p .2) in
-    begun _ _ _ (p .0) (part-long k v (x .last .0) a (x .kept .0) ∙ p .1) (part-long ((k + 7) / 8) m (y .last .0) b (y .kept .0) ∙ p .2) (cleared-front k v (x .last .0) a (x .ensures)) (cleared-front ((k + 7) / 8) m (y .last .0) b (y .ensures))
+    begun _ v m _ _ (p .0) (part-long k v (x .last .0) a (x .kept .0) ∙ p .1) (part-long ((k + 7) / 8) m (y .last .0) b (y .kept .0) ∙ p .2) (cleared-front k v (x .last .0) a (x .ensures)) (cleared-front ((k + 7) / 8) m (y .last .0) b (y .ensures)) (part-rest k v (x .last .0) a (x .kept .0)) (part-rest ((k + 7) / 8) m (y .last .0) b (y .kept .0))
 
 pub begin-spec : {M : Type 1} → statement M
 begin-spec = tie.close (tie.spec mul-places add-bytes slice-relend-prefix-clear slice-aggregate-clear clear-requires slice-relend-prefix-clear-2 slice-aggregate-clear-2 clear-requires-2 same-length same-length-2 returns)

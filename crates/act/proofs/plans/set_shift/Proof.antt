@@ -6,6 +6,7 @@ use lib.ListN.{length}
 use Rattle.plan.specs.PlanLaws.{good-bounds}
 use Rattle.act.specs.StateLaws.{shift-inside}
 use Rattle.act.specs.ActLaws.{shifted}
+use Rattle.state.specs.State.{withShift}
 use Rattle.act.specs.Acts.{stateOf}
 use borrow.Author.Needs.{needs}
 use Rattle.act.proofs.plans.set_shift.Statement.{statement}
@@ -19,7 +20,7 @@ unfolding stateOf
 array-write-s c = let r = shift-inside _ _ _ (c .before .before .pre .0 [] []) in omega (arith, r .1, good-bounds _ (c .before .before .pre .1 (r .0)) .size)
 
 returns : tie.Need-returns
-unfolding stateOf
+unfolding stateOf withShift
 returns c =
     let r = shift-inside _ _ _ (c .before .before .pre .0 [] []) in
     let l : length (c .before .before .args .held .plan .shifts) ≡ 32 = search needs in

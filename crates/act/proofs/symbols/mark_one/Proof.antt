@@ -17,7 +17,7 @@ same-length c = search needs
 
 returns : tie.Need-returns
 unfolding stateOf
-returns c = λ v k. let r = mark-inside _ _ (c .before .before .before .before .before .pre .1 .1) in one-marked k (r .0) _ (r .1) (c .before .before .set-mark .ensures)
+returns c = λ v k. let r = mark-inside _ _ (c .before .before .before .before .before .pre .1 .1) in one-marked k (r .0) (λ i. c .before .before .before .before .slice-known .given i .fits) _ (r .1) (c .before .before .set-mark .ensures)
 
 pub mark-one-spec : {M : Type 1} → statement M
 mark-one-spec = tie.close (tie.spec set-mark-requires same-length returns)

@@ -17,7 +17,7 @@ same-length c = search needs
 
 returns : tie.Need-returns
 unfolding stateOf
-returns c = λ v k. let r = run-inside _ _ _ (c .before .before .before .before .before .pre .1 .1) in run-marked k (r .0) _ _ (r .1) (c .before .before .mark-run .ensures)
+returns c = λ v k. let r = run-inside _ _ _ (c .before .before .before .before .before .pre .1 .1) in run-marked k (r .0) (λ i. c .before .before .before .before .slice-known .given i .fits) _ _ (r .1) (c .before .before .mark-run .ensures)
 
 pub mark-run-spec : {M : Type 1} → statement M
 mark-run-spec = tie.close (tie.spec mark-run-requires same-length returns)

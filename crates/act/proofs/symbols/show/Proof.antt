@@ -4,6 +4,7 @@ use native.Mathlib.Omega.{arith}
 use Rattle.act.specs.StateLaws.{show-inside, places-most}
 use Rattle.act.specs.ActLaws.{shown}
 use Rattle.act.specs.Acts.{stateOf}
+use Rattle.lines.specs.LinesLaws.{wrote-front}
 use borrow.Author.Needs.{needs}
 use Rattle.act.proofs.symbols.show.Statement.{statement}
 use Rattle.act.proofs.symbols.show.Tie as tie
@@ -23,7 +24,7 @@ unfolding stateOf
 returns c =
     let r = show-inside _ _ (c .before .before .before .before .before .before .before .pre .1 .1 .1) in
     let e = c .before .before .symbol-line .ensures in
-    (λ m k. shown k (r .0) _ (r .1) (e .text-stands), omega (arith, e .within, e .long, c .before .before .before .before .before .before .before .pre .0))
+    (λ m k. shown k _ (r .1) (e .text-stands), wrote-front e)
 
 pub show-spec : {M : Type 1} → statement M
 show-spec = tie.close (tie.spec shared-slice-read-symbol-line symbol-line-requires same-length returns)

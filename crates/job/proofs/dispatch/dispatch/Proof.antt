@@ -161,7 +161,7 @@ same-length-9 : tie.Need-same-length-9
 same-length-9 c = c .before .before .before .before .before .before .before .recover-state .kept .1 .1 .1 .0
 
 returns-6 : tie.Need-returns-6
-returns-6 c = told-acts _ (c .before .before .before .before .before .before .before .before .before .before .before .enum-told .given .1) (c .before .before .before .before .before .before .before .recover-state .ensures) (c .told .ensures)
+returns-6 c = told-acts _ _ (c .before .before .before .before .before .before .before .before .before .before .before .enum-told .given .1) (c .before .before .before .before .before .before .before .recover-state .ensures) (c .told .ensures)
 
 same-length-10 : tie.Need-same-length-10
 same-length-10 c = c .before .before .before .before .before .before .before .seal-state .kept .1 .0
@@ -173,7 +173,7 @@ same-length-12 : tie.Need-same-length-12
 same-length-12 c = c .before .before .before .before .before .before .before .seal-state .kept .1 .1 .1 .0
 
 returns-7 : tie.Need-returns-7
-returns-7 c = told-acts _ (c .before .before .before .before .before .before .before .before .before .before .before .enum-told2 .given .1) (c .before .before .before .before .before .before .before .seal-state .ensures) (c .told2 .ensures)
+returns-7 c = told-acts _ _ (c .before .before .before .before .before .before .before .before .before .before .before .enum-told2 .given .1) (c .before .before .before .before .before .before .before .seal-state .ensures) (c .told2 .ensures)
 
 same-length-13 : tie.Need-same-length-13
 same-length-13 c = search needs
@@ -182,13 +182,13 @@ same-length-14 : tie.Need-same-length-14
 same-length-14 c = c .before .before .before .show .kept .1 .1 .0
 
 returns-8 : tie.Need-returns-8
-returns-8 c = told-acts _ (c .before .before .before .before .before .before .before .command6 .given .1) (c .before .before .before .show .ensures .0 _ (c .before .before .before .before .before .before .before .before .before .before .before .before .pre .0), c .before .before .before .show .ensures .1) (c .told3 .ensures)
+returns-8 c = told-acts _ _ (c .before .before .before .before .before .before .before .command6 .given .1) (c .before .before .before .show .ensures .0 _ (c .before .before .before .before .before .before .before .before .before .before .before .before .pre .0), c .before .before .before .show .ensures .1) (c .told3 .ensures)
 
 same-length-15 : tie.Need-same-length-15
 same-length-15 c = c .before .before .before .tell-figures .kept .1 .0
 
 returns-9 : tie.Need-returns-9
-returns-9 c = told-acts _ (c .before .before .before .before .before .enum-told3 .given .1) (c .before .before .before .tell-figures .ensures .0 _ _ (c .before .before .before .before .before .before .before .before .before .before .pre .0), c .before .before .before .tell-figures .ensures .1) (c .told4 .ensures)
+returns-9 c = told-acts _ _ (c .before .before .before .before .before .enum-told3 .given .1) (c .before .before .before .tell-figures .ensures .0 _ _ (c .before .before .before .before .before .before .before .before .before .before .pre .0), c .before .before .before .tell-figures .ensures .1) (c .told4 .ensures)
 
 same-length-16 : tie.Need-same-length-16
 same-length-16 c = c .before .before .before .before .before .straight .kept .1 .1 .0
