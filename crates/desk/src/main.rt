@@ -1,5 +1,5 @@
 // The desk: reads a job from standard input and writes its sheet to standard output.
-// The crate job performs the commands; here are the buffers, the reads and the writes.
+// The crate job performs the commands, the crate sheet keeps the place in the job; here are the buffers, the reads and the writes.
 ghost use Prim.Native.Nat.{_≤_};
 ghost use lib.ListN.{length};
 use act::BLOCK;
@@ -10,20 +10,22 @@ use job::perform;
 use libc::STDIN_FILENO;
 use libc::STDOUT_FILENO;
 use lines::LINE;
-use plan::Plan;
+use sheet::reading::Cursor;
+use sheet::reading::begin;
+use sheet::reading::carry;
+use sheet::reading::used;
+use sheet::start;
 
 // Bytes read at once, and bytes of the sheet that may wait to be written.
 const INPUT: usize = 65536;
 
 const SHEET: usize = 65536;
 
-// How far the job has come. Unread bytes stand in the input from `at` to `end`,
-// unwritten ones in the sheet below `filled`.
+// How far the job has come. The cursor has the unused bytes of the input;
+// unwritten ones stand in the sheet below `filled`.
 struct Desk {
     held: Held,
-    at: usize,
-    end: usize,
-    offset: u64,
+    cursor: Cursor,
     filled: usize,
     last: bool,
     going: bool,
@@ -36,19 +38,12 @@ enum Fill {
     Failed,
 }
 
-fn start() -> Desk {
+fn opened() -> Desk {
+    let held = start();
+    let cursor = begin();
     Desk {
-        held: Held {
-            planned: false,
-            plan: Plan {
-                n: 0,
-                t: 0,
-                shifts: [0; 32],
-            },
-        },
-        at: 0,
-        end: 0,
-        offset: 0,
+        held,
+        cursor,
         filled: 0,
         last: false,
         going: true,
@@ -75,20 +70,6 @@ fn flush(mut desk: Desk, sheet: &[u8]) -> Desk {
     desk
 }
 
-// The unread bytes, moved to the front; answers their number.
-fn keep(input: &mut [u8], at: usize, end: usize) -> usize
-    requires { ⌜ (at ≤ end) × (end ≤ length (now input)) ⌝ }
-    ensures { λ r. ⌜ r ≤ length (now (input .exit)) ⌝ }
-{
-    let kept = end - at;
-    let mut i = 0;
-    while i < kept {
-        input[i] = input[at + i];
-        i += 1;
-    }
-    kept
-}
-
 // One read behind the bytes that are kept.
 fn read(input: &mut [u8], kept: usize) -> Fill
     requires { ⌜ kept ≤ length (now input) ⌝ }
@@ -105,43 +86,40 @@ fn read(input: &mut [u8], kept: usize) -> Fill
 }
 
 // The lines so far are written before the next read. After a read error nothing more is written.
-fn refill(desk: Desk, sheet: &[u8], input: &mut [u8]) -> Desk
-    requires { ⌜ (desk .at ≤ desk .end) × (desk .end ≤ length (now input)) ⌝ }
-{
+fn refill(desk: Desk, sheet: &[u8], input: &mut [u8]) -> Desk {
     let mut next = flush(desk, sheet);
-    let kept = keep(input, desk.at, desk.end);
-    next.at = 0;
-    match read(input, kept) {
-        Fill::To(end) => {
-            next.end = end;
-            next
-        }
-        Fill::Last(end) => {
-            next.end = end;
-            next.last = true;
-            next
-        }
+    let cursor = desk.cursor;
+    let kept = carry(cursor, &mut input[..]);
+    match read(input, kept.end) {
+        Fill::To(end) => filled_to(next, kept, end, false),
+        Fill::Last(end) => filled_to(next, kept, end, true),
         Fill::Failed => stopped(next),
     }
 }
 
+// More bytes are at hand, behind those that were kept.
+fn filled_to(mut desk: Desk, kept: Cursor, end: usize, last: bool) -> Desk {
+    let cursor = Cursor {
+        at: kept.at,
+        end,
+        offset: kept.offset,
+    };
+    desk.cursor = cursor;
+    desk.last = last;
+    desk
+}
+
 // After a command: its bytes are used, its line waits.
-fn moved(mut desk: Desk, held: Held, used: usize, length: usize) -> Desk {
-    if desk.end < used {
-        return stopped(desk);
-    }
-    if desk.end - used < desk.at {
-        return stopped(desk);
-    }
+fn moved(mut desk: Desk, held: Held, bytes: usize, length: usize) -> Desk {
     if LINE < length {
         return stopped(desk);
     }
     if SHEET < desk.filled {
         return stopped(desk);
     }
+    let cursor = desk.cursor;
     desk.held = held;
-    desk.at = desk.at + used;
-    desk.offset = std::num::wrapping_add_u64(desk.offset, used as u64);
+    desk.cursor = used(cursor, bytes);
     desk.filled = desk.filled + length;
     desk
 }
@@ -167,8 +145,9 @@ fn turn(
     sheet: &mut [u8],
     input: &mut [u8],
 ) -> Desk {
-    let at = desk.at;
-    let end = desk.end;
+    let cursor = desk.cursor;
+    let at = cursor.at;
+    let end = cursor.end;
     let filled = desk.filled;
     if end < at {
         return stopped(desk);
@@ -190,12 +169,12 @@ fn turn(
         &mut sheet[filled..most],
         &input[at..end],
         desk.last,
-        desk.offset,
+        cursor.offset,
     );
     let held = step.held;
     let turn = step.turn;
     match turn {
-        Turn::On(used, length) => moved(desk, held, used, length),
+        Turn::On(bytes, length) => moved(desk, held, bytes, length),
         Turn::Wait => refill(desk, sheet, input),
         Turn::End(length) => close(desk, sheet, length),
         Turn::Stop(length) => close(desk, sheet, length),
@@ -205,7 +184,7 @@ fn turn(
 
 // A proved loop has to end, and nothing says that a job does: the turns are counted down from a number that no run uses up.
 fn run(block: &mut [u8], marks: &mut [u8], sheet: &mut [u8], input: &mut [u8]) {
-    let mut desk = start();
+    let mut desk = opened();
     let mut left = u64::MAX;
     while 0 < left {
         desk = turn(

@@ -1,19 +1,18 @@
 -- What stands at the front of bytes, taken apart; and that more bytes behind a whole command change nothing.
--- Main results: nothing-empty, whole-size, short-few, short-long, parsed-prefix.
+-- Main results: nothing-empty, whole-size, whole-command, short-few, short-long, parsed-prefix.
 use mathlib.Core.Path.{_≡_, refl, sym, _∙_, ap, subst}
 use mathlib.Core.Logic.{_≢_, by-cases}
 use mathlib.Core.Bool.{Bool, true, false, cond}
 use mathlib.Core.List.{List, [], _∷_, _++_}
-use Prim.Native.Nat.{ℕ, zero, suc, _+_, _≤_, _<_}
+use Prim.Native.Nat.{ℕ, _≤_, _<_}
 use native.Mathlib.Decide.{ℕ-discrete}
 use native.Mathlib.Omega.{arith}
 use lib.Dec.{eqb, ltb}
 use lib.ListN.{length, getD, length-append, List·getD-append}
-use borrow.Author.Tests.{eqb-true, eqb-false, ltb-true, ltb-false, eq-eqb, ne-eqb, lt-ltb, le-ltb}
-use Rattle.commands.specs.Commands.{sizeOf, one, two, commandOf, parsed}
+use borrow.Author.Tests.{eqb-true, eqb-false, ltb-true, ltb-false, le-ltb}
+use Rattle.commands.specs.Commands.{sizeOf, commandOf, parsed}
 use Rattle.commands.specs.CommandLaws.{Other, no-size}
 use Rattle.commands.specs.declared.Command.{Command}
-use Rattle.commands.specs.declared.Parsed.{Parsed}
 use Rattle.commands.specs.declared.Parsed.the-variants.{Whole, Unknown, Short, Nothing}
 
 zero-one : _≡_ {A = ℕ} 0 1 → ⊥
@@ -54,6 +53,15 @@ whole-size (x ∷ b) c e =
     let n : sizeOf x ≡ 0 → ⊥ = eqb-false (sizeOf x) 0 (r .0) in
     let l : sizeOf x ≤ length (x ∷ b) = ltb-false (length (x ∷ b)) (sizeOf x) (r .1) in
     (omega arith, l)
+
+is-command : (p q : Bool) (d : Command) {c : Command} → cond p Unknown (cond q Short (Whole d)) ≡ Whole c → c ≡ d
+is-command true q d e = absurd (zero-one (cc))
+is-command false true d e = absurd (zero-one (cc))
+is-command false false d e = cc
+
+pub whole-command : (b : List ℕ) (c : Command) → parsed b ≡ Whole c → c ≡ commandOf b
+whole-command [] c e = absurd (zero-one (let q = none in cc))
+whole-command (x ∷ b) c e = is-command (eqb (sizeOf x) 0) (ltb (length (x ∷ b)) (sizeOf x)) (commandOf (x ∷ b)) (sym (parsed-is x b) ∙ e)
 
 size-most : (x : ℕ) → sizeOf x ≤ 6
 unfolding sizeOf

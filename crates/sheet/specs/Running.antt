@@ -1,51 +1,70 @@
 -- What a run over a whole job promises, and what holds on the way.
--- Main definitions: Begins, Reads, Runs, Running.
+-- Main definitions: Begins, Follows, Cut, Runs; Put, Running.
 use mathlib.Core.Path.{_≡_}
-use mathlib.Core.Logic.{_⊎_}
-use mathlib.Core.List.{List, _++_}
-use Prim.Native.Nat.{ℕ, _≤_}
-use lib.ListN.{length, take, drop}
-use Rattle.calls.specs.declared.Refusal.{Refusal}
-use Rattle.calls.specs.declared.Check.the-variants as check
-use Rattle.lines.specs.Lines.{lineLength}
+use mathlib.Core.Logic.{_≢_}
+use mathlib.Core.List.{List, [], _++_}
+use Prim.Native.Nat.{ℕ, _+_, _≤_, _<_}
+use lib.ListN.{length, getD, take, drop}
+use Rattle.commands.specs.Commands.{sizeOf, parsed}
+use Rattle.commands.specs.declared.Command.{Command}
+use Rattle.commands.specs.declared.Parsed.the-variants as front
+use Rattle.lines.specs.Lines.{lineLength, Appends}
 use Rattle.state.specs.State.{State}
+use Rattle.state.specs.Refusals.{refusalOf}
+use Rattle.act.specs.Meaning.{Means}
 use Rattle.act.specs.Acts.{stateOf, Kept}
 use Rattle.act.specs.declared.Held.{Held}
-use Rattle.job.specs.Turns.{heldCheck}
-use Rattle.job.specs.Sheets.{Sheet}
+use Rattle.job.specs.Sheets.{Sheet, start}
 use Rattle.sheet.specs.declared.Ran.{Ran}
-use Rattle.sheet.specs.declared.Ran.the-variants.{Whole, Full, Bad}
+use Rattle.sheet.specs.declared.Ran.the-variants.{Whole, Full}
 
--- the text begins a sheet of the bytes: from an offset and a state on, every sheet of the rest completes it
-pub record Begins (start : State) (bytes text : List ℕ) : Type 0 where
+-- the lines of a job's first commands, which lead to this offset and this state
+pub data Begins (job : List ℕ) : ℕ → State → List ℕ → Type 0 where
+  nothing-yet : Begins job 0 start []
+  one-more : {o : ℕ} {s : State} {text : List ℕ} → Begins job o s text → (c : Command) (s' : State) (said : List ℕ) → parsed (drop o job) ≡ front.Whole c →
+      refusalOf s c ≡ 0 → Means c s s' said → Begins job (o + sizeOf (getD (drop o job) 0 0)) s' (text ++ said)
+
+-- the line that follows: that of a command that goes on, or where none does the last line
+pub data Follows (o : ℕ) (s : State) (b said : List ℕ) : Type 0 where
+  goes : (c : Command) (s' : State) → parsed b ≡ front.Whole c → refusalOf s c ≡ 0 → Means c s s' said → Follows o s b said
+  closes : ((c : Command) → parsed b ≡ front.Whole c → refusalOf s c ≢ 0) → Sheet o s b said → Follows o s b said
+
+-- a sheet that was cut: the text is the job's first lines, and there is no room for the line that follows
+pub record Cut (job : List ℕ) (room : ℕ) (text : List ℕ) : Type 0 where
   pub offset : ℕ
   pub state : State
-  pub more : (rest : List ℕ) → Sheet offset state (drop offset bytes) rest → Sheet 0 start bytes (text ++ rest)
+  pub begins : Begins job offset state text
+  pub next : List ℕ
+  pub follows : Follows offset state (drop offset job) next
+  pub no-room : room < length text + length next
 
--- a run from a state that nothing refuses: a whole sheet, or the first lines of one where the buffer was too short
-pub record Reads (start : State) (bytes : List ℕ) (r : Ran) (sheet' : List ℕ) : Type 0 where
-  pub whole : (k : ℕ) → r ≡ Whole k → (k ≤ length sheet') × Sheet 0 start bytes (take k sheet')
-  pub full : (k : ℕ) → r ≡ Full k → (k ≤ length sheet') × Begins start bytes (take k sheet')
-  pub not-bad : (x : Refusal) → r ≡ Bad x → ⊥
+-- the length of what was written
+abbrev pub written : Ran → ℕ
+written (Whole k) = k
+written (Full k) = k
 
--- run: what refuses the lent state leaves everything as it was
-pub record Runs (h : Held) (v m l bytes sheet : List ℕ) (r : Ran) (v' m' l' sheet' : List ℕ) : Type 0 where
-  pub bad : (x : Refusal) → heldCheck h v m l ≡ check.Stop x → (r ≡ Bad x) × (v' ≡ v) × (m' ≡ m) × (l' ≡ l) × (sheet' ≡ sheet)
-  pub passed : heldCheck h v m l ≡ check.Pass → Reads (stateOf h v m) bytes r sheet'
+-- run: the sheet of the job, or where the lent sheet is too short its first lines. What stands past them is kept.
+pub record Runs (job sheet : List ℕ) (r : Ran) (sheet' : List ℕ) : Type 0 where
+  pub whole : (k : ℕ) → r ≡ Whole k → Sheet 0 start job (take k sheet')
+  pub full : (k : ℕ) → r ≡ Full k → Cut job (length sheet) (take k sheet')
+  pub within : written r ≤ length sheet
+  pub long : length sheet' ≡ length sheet
+  pub rest : drop (written r) sheet' ≡ drop (written r) sheet
 
--- a line was put on the sheet, or it is full and nothing was written
-unfoldable pub Put : List ℕ → ℕ → List ℕ → ℕ → ℕ → List ℕ → ℕ → ℕ → Type 0
-Put l count sheet to phase sheet' to' phase' =
-    ((phase' ≡ phase) × (take to' sheet' ≡ take to sheet ++ take count l) × (to' ≤ length sheet'))
-    ⊎ ((phase' ≡ 2) × (to' ≡ to) × (sheet' ≡ sheet))
+-- a line was put on the sheet, or there is no room for it and nothing was written
+pub data Put (l : List ℕ) (count : ℕ) (sheet : List ℕ) (to phase : ℕ) (sheet' : List ℕ) (to' phase' : ℕ) : Type 0 where
+  fits : phase' ≡ phase → Appends sheet to (take count l) sheet' to' → Put l count sheet to phase sheet' to' phase'
+  no-room : phase' ≡ 2 → to' ≡ to → sheet' ≡ sheet → length sheet < to + count → Put l count sheet to phase sheet' to' phase'
 
--- on the way: the state is kept, and the lines so far begin or make the sheet
-pub record Running (start : State) (bytes : List ℕ) (h : Held) (v m l : List ℕ) (at to : ℕ) (sheet : List ℕ) (phase : ℕ) : Type 0 where
+-- on the way: the state is kept, and the lines so far begin or make the sheet; `lent` is the sheet as it was lent
+pub record Running (job lent : List ℕ) (h : Held) (v m l : List ℕ) (at to : ℕ) (sheet : List ℕ) (phase : ℕ) : Type 0 where
   pub kept : Kept h v m
   pub line-long : length l ≡ lineLength
-  pub inside : at ≤ length bytes
+  pub inside : at ≤ length job
   pub room : to ≤ length sheet
+  pub long : length sheet ≡ length lent
+  pub rest : drop to sheet ≡ drop to lent
   pub phases : phase ≤ 2
-  pub going : phase ≡ 0 → (rest : List ℕ) → Sheet at (stateOf h v m) (drop at bytes) rest → Sheet 0 start bytes (take to sheet ++ rest)
-  pub closed : phase ≡ 1 → Sheet 0 start bytes (take to sheet)
-  pub full : phase ≡ 2 → Begins start bytes (take to sheet)
+  pub going : phase ≡ 0 → Begins job at (stateOf h v m) (take to sheet)
+  pub closed : phase ≡ 1 → Sheet 0 start job (take to sheet)
+  pub full : phase ≡ 2 → Cut job (length lent) (take to sheet)

@@ -1,28 +1,29 @@
 // A whole job over one slice: command after command is performed, line after line is put on a lent sheet.
-// And a part of a job that was read: the bytes of a command that is cut off are moved to the front, where more can follow.
-// Entries: start and run. carry, which has a requires, is for programs that read a job in parts.
+// Entries: run; start, and the cursor of `reading`, for programs that read a job in parts.
 ghost use mathlib.Core.Path.{_≡_};
-ghost use mathlib.Core.Bool.{false};
-ghost use Prim.Native.Nat.{_-_, _≤_, _<_};
-ghost use lib.ListN.{length, take, drop};
-ghost use Rattle.state.specs.State.{State};
+ghost use mathlib.Core.List.{List};
+ghost use Prim.Native.Nat.{ℕ, _≤_, _<_};
+ghost use lib.ListN.{length};
 ghost use Rattle.lines.specs.Lines.{lineLength};
 ghost use Rattle.act.specs.Acts.{Kept, stateOf};
-ghost use Rattle.sheet.specs.Running.{Reads, Running, Put, Runs};
+ghost use Rattle.job.specs.Sheets as sheets;
+ghost use Rattle.sheet.specs.Running.{Runs, Running, Put};
+ghost use Rattle.sheet.specs.RunningLaws.{unplanned};
+use act::BLOCK;
 use act::Held;
-use calls::Check;
-use calls::Refusal;
+use act::MARKS;
 use job::Turn;
 use job::perform;
-use job::standing::check_held;
+use lines::LINE;
 use plan::Plan;
 use runs::parts::copy;
 
-// Whole: the sheet's length. Full: the length of the lines that fitted. Bad: the lent state was refused, and nothing done.
+pub mod reading;
+
+// Whole: the sheet's length. Full: the lent sheet is too short; the length of the lines that fitted.
 pub enum Ran {
     Whole(usize),
     Full(usize),
-    Bad(Refusal),
 }
 
 // After a turn: the plan, the place in the job, the length of the sheet so far; phase 0: more may follow, 1: closed, 2: the sheet is full.
@@ -35,7 +36,7 @@ pub struct Reached {
 
 // A job starts with no plan.
 pub fn start() -> Held
-    ensures { λ r. ⌜ r .planned ≡ false ⌝ }
+    ensures { λ r. ⌜ r ≡ unplanned ⌝ }
 {
     Held {
         planned: false,
@@ -47,20 +48,20 @@ pub fn start() -> Held
     }
 }
 
-pub fn run(
-    held: Held,
-    block: &mut [u8],
-    marks: &mut [u8],
-    line: &mut [u8],
-    bytes: &[u8],
-    sheet: &mut [u8],
-) -> Ran
-    ensures { λ r. ⌜ Runs held (now (block .entry)) (now (marks .entry)) (now (line .entry)) (now (bytes .entry)) (now (sheet .entry)) r (now (block .exit)) (now (marks .exit)) (now (line .exit)) (now (sheet .exit)) ⌝ }
+pub fn run(job: &[u8], sheet: &mut [u8]) -> Ran
+    ensures { λ r. ⌜ Runs (now (job .entry)) (now (sheet .entry)) r (now (sheet .exit)) ⌝ }
 {
-    match check_held(held, &block[..], &marks[..], &line[..]) {
-        Check::Stop(x) => Ran::Bad(x),
-        Check::Pass => run_all(held, block, marks, line, bytes, sheet),
-    }
+    let mut block = [0u8; BLOCK];
+    let mut marks = [0u8; MARKS];
+    let mut line = [0u8; LINE];
+    run_all(
+        start(),
+        &mut block[..],
+        &mut marks[..],
+        &mut line[..],
+        job,
+        sheet,
+    )
 }
 
 fn run_all(
@@ -68,11 +69,11 @@ fn run_all(
     block: &mut [u8],
     marks: &mut [u8],
     line: &mut [u8],
-    bytes: &[u8],
+    job: &[u8],
     sheet: &mut [u8],
 ) -> Ran
-    requires { ⌜ Kept held (now block) (now marks) × (length (now line) ≡ lineLength) ⌝ }
-    ensures { λ r. ⌜ Reads (stateOf held (now (block .entry)) (now (marks .entry))) (now (bytes .entry)) r (now (sheet .exit)) ⌝ }
+    requires { ⌜ Kept held (now block) (now marks) × (length (now line) ≡ lineLength) × (stateOf held (now block) (now marks) ≡ sheets.start) ⌝ }
+    ensures { λ r. ⌜ Runs (now (job .entry)) (now (sheet .entry)) r (now (sheet .exit)) ⌝ }
 {
     let mut here = Reached {
         held,
@@ -86,7 +87,7 @@ fn run_all(
             &mut block[..],
             &mut marks[..],
             &mut line[..],
-            bytes,
+            job,
             &mut sheet[..],
         );
     }
@@ -102,11 +103,11 @@ fn next(
     block: &mut [u8],
     marks: &mut [u8],
     line: &mut [u8],
-    bytes: &[u8],
+    job: &[u8],
     sheet: &mut [u8],
 ) -> Reached
-    requires { ⌜ ((s : State) × Running s (now bytes) (here .held) (now block) (now marks) (now line) (here .at) (here .to) (now sheet) (here .phase)) × (here .phase ≡ 0) ⌝ }
-    ensures { λ r. ⌜ ((s : State) → Running s (now (bytes .entry)) (here .held) (now (block .entry)) (now (marks .entry)) (now (line .entry)) (here .at) (here .to) (now (sheet .entry)) (here .phase) → Running s (now (bytes .entry)) (r .held) (now (block .exit)) (now (marks .exit)) (now (line .exit)) (r .at) (r .to) (now (sheet .exit)) (r .phase)) × (r .phase ≡ 0 → here .at < r .at) ⌝ }
+    requires { ⌜ ((x : List ℕ) × Running (now job) x (here .held) (now block) (now marks) (now line) (here .at) (here .to) (now sheet) (here .phase)) × (here .phase ≡ 0) ⌝ }
+    ensures { λ r. ⌜ ((x : List ℕ) → Running (now (job .entry)) x (here .held) (now (block .entry)) (now (marks .entry)) (now (line .entry)) (here .at) (here .to) (now (sheet .entry)) (here .phase) → Running (now (job .entry)) x (r .held) (now (block .exit)) (now (marks .exit)) (now (line .exit)) (r .at) (r .to) (now (sheet .exit)) (r .phase)) × (r .phase ≡ 0 → here .at < r .at) ⌝ }
 {
     let held = here.held;
     let at = here.at;
@@ -116,7 +117,7 @@ fn next(
         &mut block[..],
         &mut marks[..],
         &mut line[..],
-        &bytes[at..],
+        &job[at..],
         true,
         at as u64,
     );
@@ -178,19 +179,4 @@ fn put_line(
         to: end,
         phase,
     }
-}
-
-// Moves the bytes from..to to the front of the buffer, and answers their number. What was cut off is at most 5 bytes.
-pub fn carry(buffer: &mut [u8], from: usize, to: usize) -> usize
-    requires { ⌜ (from ≤ to) × (to ≤ length (now buffer)) ⌝ }
-    ensures { λ r. ⌜ (r ≡ to - from) × (take r (now (buffer .exit)) ≡ take (to - from) (drop from (now (buffer .entry)))) ⌝ }
-{
-    let mut i = from;
-    let mut k = 0;
-    while i < to {
-        buffer[k] = buffer[i];
-        i += 1;
-        k += 1;
-    }
-    k
 }

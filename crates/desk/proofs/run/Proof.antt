@@ -12,8 +12,8 @@ Inv-loop block₀ marks₀ sheet₀ input₀ desk₀ left₀ block marks sheet i
 abbrev μ-loop : tie.MeasureT-loop
 μ-loop block₀ marks₀ sheet₀ input₀ desk₀ left₀ block marks sheet input desk left = left
 
-start-requires : tie.Need-start-requires Inv-loop μ-loop
-start-requires c κs = search needs
+opened-requires : tie.Need-opened-requires Inv-loop μ-loop
+opened-requires c κs = search needs
 
 loop-holds : tie.Need-loop-holds Inv-loop μ-loop
 loop-holds c = search needs
@@ -66,7 +66,7 @@ run-spec =
     (tie.spec
     Inv-loop
     μ-loop
-    start-requires
+    opened-requires
     loop-holds
     turn-requires
     same-length

@@ -1,5 +1,4 @@
 -- By what the turn comes to.
-use mathlib.Core.Path.{_≡_, refl, sym, _∙_, ap}
 use native.Mathlib.Omega.{arith}
 use lib.ListN.{length-drop}
 use Rattle.sheet.specs.RunningLaws.{turned, on-count, end-count, stop-count, never-waits, never-bad, next-on, next-close}
@@ -26,13 +25,13 @@ add-put-line : tie.Need-add-put-line
 add-put-line c =
     let w = on-count _ _ (c .before .turn .given .1) (turned (c .before .before .before .before .before .before .before .before .before .before .before .before .before .before .before .before .before .before .before .before .before .pre .0 .1) (c .before .before .before .before .before .before .before .before .before .before .before .before .before .before .before .before .before .before .before .before .before .pre .1) (c .before .before .before .before .before .before .before .before .before .before .perform .ensures)) in
     let s = c .before .before .before .before .before .before .before .before .before .before .before .before .before .before .before .before .before .before .before .before .before in
-    omega (arith, w .2, length-drop (s .args .here .at) (s .args .bytes .now), s .pre .0 .1 .inside, s .good)
+    omega (arith, w .2, length-drop (s .args .here .at) (s .args .job .now), s .pre .0 .1 .inside, s .good)
 
 put-line-requires : tie.Need-put-line-requires
 put-line-requires c κs =
     let w = on-count _ _ (c .before .before .before .turn .given .1) (turned (c .before .before .before .before .before .before .before .before .before .before .before .before .before .before .before .before .before .before .before .before .before .before .before .pre .0 .1) (c .before .before .before .before .before .before .before .before .before .before .before .before .before .before .before .before .before .before .before .before .before .before .before .pre .1) (c .before .before .before .before .before .before .before .before .before .before .before .before .perform .ensures)) in
     let r = c .before .before .before .before .before .before .before .before .before .before .before .before .before .before .before .before .before .before .before .before .before .before .before .pre .0 .1 in
-    (omega (arith, w .0, c .before .before .before .before .before .before .before .before .before .before .before .before .perform .kept .1 .1 .1 .0, r .line-long), r .room)
+    (w .0, r .room)
 
 enum-known-turn-2 : tie.Need-enum-known-turn-2
 enum-known-turn-2 c = search needs
@@ -41,7 +40,7 @@ put-line-requires-2 : tie.Need-put-line-requires-2
 put-line-requires-2 c κs =
     let w = end-count _ (c .before .before .before .turn2 .given .1) (turned (c .before .before .before .before .before .before .before .before .before .before .before .before .before .before .before .before .before .before .before .before .before .before .before .pre .0 .1) (c .before .before .before .before .before .before .before .before .before .before .before .before .before .before .before .before .before .before .before .before .before .before .before .pre .1) (c .before .before .before .before .before .before .before .before .before .before .before .before .perform .ensures)) in
     let r = c .before .before .before .before .before .before .before .before .before .before .before .before .before .before .before .before .before .before .before .before .before .before .before .pre .0 .1 in
-    (omega (arith, w .0, c .before .before .before .before .before .before .before .before .before .before .before .before .perform .kept .1 .1 .1 .0, r .line-long), r .room)
+    (w .0, r .room)
 
 enum-known-turn-3 : tie.Need-enum-known-turn-3
 enum-known-turn-3 c = search needs
@@ -50,7 +49,7 @@ put-line-requires-3 : tie.Need-put-line-requires-3
 put-line-requires-3 c κs =
     let w = stop-count _ (c .before .before .before .turn3 .given .1) (turned (c .before .before .before .before .before .before .before .before .before .before .before .before .before .before .before .before .before .before .before .before .before .before .before .pre .0 .1) (c .before .before .before .before .before .before .before .before .before .before .before .before .before .before .before .before .before .before .before .before .before .before .before .pre .1) (c .before .before .before .before .before .before .before .before .before .before .before .before .perform .ensures)) in
     let r = c .before .before .before .before .before .before .before .before .before .before .before .before .before .before .before .before .before .before .before .before .before .before .before .pre .0 .1 in
-    (omega (arith, w .0, c .before .before .before .before .before .before .before .before .before .before .before .before .perform .kept .1 .1 .1 .0, r .line-long), r .room)
+    (w .0, r .room)
 
 enum-told : tie.Need-enum-told
 enum-told c = search needs
@@ -76,7 +75,7 @@ returns c =
     let z = c .before .before .before .before .before .before .before .before .before .before .before .before .before .before .before .before .before .before .before .before .before .before .before .before .before .before .pre .1 in
     let f = c .before .before .before .before .before .before .before .before .before .before .before .before .before .before .before .perform in
     let e = c .before .before .before .before .before .before .turn .given .1 in (
-      λ s r. next-on r z _ _ e (turned r z (f .ensures)) (f .kept .1 .1 .1 .0) (p .0) (p .1) (p .2) .0,
+      λ x r. next-on r z _ _ e (turned r z (f .ensures)) (f .kept .1 .1 .1 .0) (p .0) (p .1) (p .2) .0,
       next-on (c .before .before .before .before .before .before .before .before .before .before .before .before .before .before .before .before .before .before .before .before .before .before .before .before .before .before .pre .0 .1) z _ _ e (turned (c .before .before .before .before .before .before .before .before .before .before .before .before .before .before .before .before .before .before .before .before .before .before .before .before .before .before .pre .0 .1) z (f .ensures)) (f .kept .1 .1 .1 .0) (p .0) (p .1) (p .2) .1,
     )
 
@@ -99,8 +98,8 @@ returns-2 c =
     let f = c .before .before .before .before .before .before .before .before .before .before .before .before .before .before .before .perform in
     let e = c .before .before .before .before .before .before .turn2 .given .1 in
     let q = end-count _ e (turned (c .before .before .before .before .before .before .before .before .before .before .before .before .before .before .before .before .before .before .before .before .before .before .before .before .before .before .pre .0 .1) z (f .ensures)) in (
-      λ s r. next-close r z _ (q .1) (q .2) (f .kept .1 .1 .1 .0) (p .0) (p .1) (p .2) .0,
-      next-close (c .before .before .before .before .before .before .before .before .before .before .before .before .before .before .before .before .before .before .before .before .before .before .before .before .before .before .pre .0 .1) z _ (q .1) (q .2) (f .kept .1 .1 .1 .0) (p .0) (p .1) (p .2) .1,
+      λ x r. next-close r z _ (q .0) (q .1) (q .2) (f .kept .1 .1 .1 .0) (p .0) (p .1) (p .2) .0,
+      next-close (c .before .before .before .before .before .before .before .before .before .before .before .before .before .before .before .before .before .before .before .before .before .before .before .before .before .before .pre .0 .1) z _ (q .0) (q .1) (q .2) (f .kept .1 .1 .1 .0) (p .0) (p .1) (p .2) .1,
     )
 
 same-length-9 : tie.Need-same-length-9
@@ -122,8 +121,8 @@ returns-3 c =
     let f = c .before .before .before .before .before .before .before .before .before .before .before .before .before .before .before .perform in
     let e = c .before .before .before .before .before .before .turn3 .given .1 in
     let q = stop-count _ e (turned (c .before .before .before .before .before .before .before .before .before .before .before .before .before .before .before .before .before .before .before .before .before .before .before .before .before .before .pre .0 .1) z (f .ensures)) in (
-      λ s r. next-close r z _ (q .1) (q .2) (f .kept .1 .1 .1 .0) (p .0) (p .1) (p .2) .0,
-      next-close (c .before .before .before .before .before .before .before .before .before .before .before .before .before .before .before .before .before .before .before .before .before .before .before .before .before .before .pre .0 .1) z _ (q .1) (q .2) (f .kept .1 .1 .1 .0) (p .0) (p .1) (p .2) .1,
+      λ x r. next-close r z _ (q .0) (q .1) (q .2) (f .kept .1 .1 .1 .0) (p .0) (p .1) (p .2) .0,
+      next-close (c .before .before .before .before .before .before .before .before .before .before .before .before .before .before .before .before .before .before .before .before .before .before .before .before .before .before .pre .0 .1) z _ (q .0) (q .1) (q .2) (f .kept .1 .1 .1 .0) (p .0) (p .1) (p .2) .1,
     )
 
 same-length-13 : tie.Need-same-length-13

@@ -1,5 +1,5 @@
 -- The line is copied behind the sheet so far, if it fits.
-use mathlib.Core.Path.{_≡_, refl, sym, _∙_, ap}
+use mathlib.Core.Path.{refl, sym}
 use native.Mathlib.Omega.{arith}
 use lib.Seq.{length-take-le}
 use Rattle.sheet.specs.RunningLaws.{put-full, put-fits, put-long}
@@ -11,7 +11,7 @@ sub-if1 : tie.Need-sub-if1
 sub-if1 c = omega (arith, c .before .before .pre)
 
 returns : tie.Need-returns
-returns c = (refl, refl, put-full _ _ _ _ _)
+returns c = let s = c .before .before .before in (refl, refl, put-full _ _ (s .args .sheet .now) (s .args .to) _ (s .pre .1) (c .if1 .taken))
 
 add-end : tie.Need-add-end
 add-end c = search needs

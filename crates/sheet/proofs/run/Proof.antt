@@ -1,49 +1,40 @@
--- What refuses the state, then the run.
-use mathlib.Core.Path.{_≡_, refl, sym, _∙_, ap}
-use Rattle.job.specs.StandingLaws.{pass-kept}
-use Rattle.sheet.specs.RunningLaws.{runs-bad, runs-passed}
+-- No plan is held before the first command.
+use Prim.Native.Nat.{ℕ}
+use lib.ListN.{replicate, length-replicate}
+use Rattle.sheet.specs.RunningLaws.{held-ready}
 use borrow.Author.Needs.{needs}
 use Rattle.sheet.proofs.run.Statement.{statement}
 use Rattle.sheet.proofs.run.Tie as tie
 
-check-held-requires : tie.Need-check-held-requires
-check-held-requires c κs = search needs
+start-requires : tie.Need-start-requires
+start-requires c κs = search needs
 
-enum-known-x : tie.Need-enum-known-x
-enum-known-x c = search needs
+slice-aggregate-run-all : tie.Need-slice-aggregate-run-all
+slice-aggregate-run-all c = search needs
 
-enum-told : tie.Need-enum-told
-enum-told c = search needs
+slice-aggregate-run-all-2 : tie.Need-slice-aggregate-run-all-2
+slice-aggregate-run-all-2 c = search needs
+
+slice-aggregate-run-all-3 : tie.Need-slice-aggregate-run-all-3
+slice-aggregate-run-all-3 c = search needs
 
 run-all-requires : tie.Need-run-all-requires
-run-all-requires c κs = pass-kept _ _ _ _ (sym (c .before .before .before .before .before .before .check-held .ensures) ∙ c .before .before .before .before .enum-told .given .1)
+run-all-requires c κs = held-ready _ (replicate 32768 0) (replicate 4096 0) (replicate 24600 0) (c .before .before .before .before .start .ensures) (length-replicate {A = ℕ} 32768 0) (length-replicate {A = ℕ} 4096 0) (length-replicate {A = ℕ} 24600 0)
 
 same-length : tie.Need-same-length
 same-length c = search needs
 
-same-length-2 : tie.Need-same-length-2
-same-length-2 c = search needs
-
-same-length-3 : tie.Need-same-length-3
-same-length-3 c = search needs
-
 returns : tie.Need-returns
-returns c = runs-bad _ _ _ _ _ _ _ (sym (c .before .before .before .check-held .ensures) ∙ c .before .x .given .1)
-
-same-length-4 : tie.Need-same-length-4
-same-length-4 c = c .before .before .before .before .before .before .before .before .run-all .kept .1 .0
-
-same-length-5 : tie.Need-same-length-5
-same-length-5 c = c .before .before .before .before .before .before .before .before .run-all .kept .1 .1 .0
-
-same-length-6 : tie.Need-same-length-6
-same-length-6 c = c .before .before .before .before .before .before .before .before .run-all .kept .1 .1 .1 .0
-
-same-length-7 : tie.Need-same-length-7
-same-length-7 c = c .before .before .before .before .before .before .before .before .run-all .kept .1 .1 .1 .1 .1 .0
-
-returns-2 : tie.Need-returns-2
-returns-2 c = runs-passed (sym (c .before .before .before .before .before .before .before .before .before .before .before .before .before .before .before .check-held .ensures) ∙ c .before .before .before .before .before .before .before .before .before .before .before .before .before .enum-told .given .1) (c .before .before .before .before .before .before .before .before .run-all .ensures)
+returns c = search needs
 
 pub run-spec : {M : Type 1} → statement M
-run-spec = tie.close (tie.spec check-held-requires enum-known-x enum-told run-all-requires same-length same-length-2 same-length-3 returns same-length-4 same-length-5 same-length-6 same-length-7 returns-2)
+run-spec =
+    tie.close
+    (tie.spec
+    start-requires
+    slice-aggregate-run-all
+    slice-aggregate-run-all-2
+    slice-aggregate-run-all-3
+    run-all-requires
+    same-length
+    returns)
