@@ -1,0 +1,30 @@
+-- `fumizhaki_figures` meets its contract: the answer's figures, or zeros beside its refusal. Assumes nothing.
+use borrow.Author.Needs.{needs}
+use Rattle.capi.specs.EntryLaws.{figures-done, figures-refused}
+use Rattle.capi.proofs.fumizhaki_figures.Statement.{statement}
+use Rattle.capi.proofs.fumizhaki_figures.Tie as tie
+
+figures-requires : tie.Need-figures-requires
+figures-requires c κs = search needs
+
+enum-known-f : tie.Need-enum-known-f
+enum-known-f c = search needs
+
+enum-known-v : tie.Need-enum-known-v
+enum-known-v c = search needs
+
+number-requires : tie.Need-number-requires
+number-requires c κs = search needs
+
+returns : tie.Need-returns
+returns c = figures-done _ _ (rw (c .before .f .given .1) at (c .before .before .before .figures .ensures))
+
+returns-2 : tie.Need-returns-2
+returns-2 c =
+    rw (c .number .ensures)
+    (figures-refused _ _ (rw (c .before .before .v .given .1) at (c .before .before .before .before .figures .ensures)))
+
+pub fumizhaki-figures-spec : {M : Type 1} → statement M
+fumizhaki-figures-spec =
+    tie.close
+    (tie.spec figures-requires enum-known-f enum-known-v number-requires returns returns-2)

@@ -1,0 +1,18 @@
+-- `fumizhaki_ruler` meets its contract: the constructor's answer, numbered. Assumes nothing.
+use borrow.Author.Needs.{needs}
+use mathlib.Core.Path.{_∙_, ap}
+use Rattle.capi.specs.Entries.{numbered}
+use Rattle.capi.proofs.fumizhaki_ruler.Statement.{statement}
+use Rattle.capi.proofs.fumizhaki_ruler.Tie as tie
+
+ruler-requires : tie.Need-ruler-requires
+ruler-requires c κs = search needs
+
+number-made-requires : tie.Need-number-made-requires
+number-made-requires c κs = search needs
+
+returns : tie.Need-returns
+returns c = c .number-made .ensures ∙ ap numbered (c .before .ruler .ensures)
+
+pub fumizhaki-ruler-spec : {M : Type 1} → statement M
+fumizhaki-ruler-spec = tie.close (tie.spec ruler-requires number-made-requires returns)

@@ -1,0 +1,15 @@
+-- `number_made` meets its contract: field by field. Assumes nothing.
+use borrow.Author.Needs.{needs}
+use Rattle.capi.specs.Entries.{numbered}
+use Rattle.capi.proofs.number_made.Statement.{statement}
+use Rattle.capi.proofs.number_made.Tie as tie
+
+number-requires : tie.Need-number-requires
+number-requires c κs = search needs
+
+returns : tie.Need-returns
+unfolding numbered
+returns c = rw (c .number .ensures)
+
+pub number-made-spec : {M : Type 1} → statement M
+number-made-spec = tie.close (tie.spec number-requires returns)

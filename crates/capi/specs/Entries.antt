@@ -1,0 +1,64 @@
+-- What each C entry promises: the number of an answer of the library's entry of the same name, by 01's table, and that answer's values.
+-- p the plan; v the block, m the marks, w the witness list, d the message, each as lent; v', w', d' as they are left; number the result; count and the
+-- figures as they are left in the out parameters, which are written in every case.
+use mathlib.Core.Path.{_≡_}
+use mathlib.Core.Logic.{_≢_}
+use mathlib.Core.List.{List}
+use Prim.Native.Nat.{ℕ}
+use Rattle.plan.specs.Plans.{numberOf, layoutOf, verdictOf}
+use Rattle.plan.specs.declared.Plan.{Plan}
+use Rattle.plan.specs.declared.Made.{Made as PlanMade}
+use Rattle.plan.specs.declared.Count.{Count}
+use Rattle.plan.specs.declared.Count.the-variants.{Is, Not}
+use Rattle.code.specs.Figures.{Figures}
+use Rattle.calls.specs.declared.Counted.{Counted}
+use Rattle.calls.specs.declared.Counted.the-variants as counted
+use Rattle.promises.specs.Answers.{recoveryNumber, recoveryCount, encodingNumber, readingNumber}
+use Rattle.promises.specs.Promises.{Recovers, Encodes, Reads}
+use Rattle.promises.specs.declared.Recovery.{Recovery}
+use Rattle.promises.specs.declared.Encoding.{Encoding}
+use Rattle.promises.specs.declared.Reading.{Reading}
+use Rattle.capi.specs.declared.Made.{Made}
+
+-- fumizhaki_plan_of, _straight, _powers, _ruler: the constructor's answer by its number, with its plan; a refusal's plan is all zeros
+unfoldable pub numbered : PlanMade → Made
+numbered m = record { answer = numberOf (m .answer); plan = m .plan }
+
+-- fumizhaki_message_count: the refusal's number and 0, else 0 and the message count
+abbrev pub messageNumber : Count → ℕ
+messageNumber (Is k) = 0
+messageNumber (Not v) = numberOf v
+
+abbrev pub messageValue : Count → ℕ
+messageValue (Is k) = k
+messageValue (Not v) = 0
+
+-- fumizhaki_figures: the number of the plan's verdict, and the figures; all four are 0 where the plan is refused
+pub record FiguresOut (p : Plan) (number parity pair neighbour distance : ℕ) : Type 0 where
+  pub number-is : number ≡ numberOf (verdictOf p)
+  pub figures-are : number ≡ 0 → Figures (layoutOf p) parity pair neighbour distance
+  pub refused-zeros : number ≢ 0 → (parity ≡ 0) × (pair ≡ 0) × (neighbour ≡ 0) × (distance ≡ 0)
+
+-- fumizhaki_erasure_count: its number is countedNumber of the answer; the number of marked places, 0 where the call is refused
+abbrev pub countedValue : Counted → ℕ
+countedValue (counted.Marks z) = z
+countedValue (counted.Refused x) = 0
+
+-- fumizhaki_recover: the number of an answer that keeps recover's promise, and its count, which is 0 unless the number is 5 or 6
+pub record RecoverOut (p : Plan) (v m w : List ℕ) (number count : ℕ) (v' w' : List ℕ) : Type 0 where
+  pub answer : Recovery
+  pub keeps : Recovers p v m w answer v' w'
+  pub number-is : number ≡ recoveryNumber answer
+  pub count-is : count ≡ recoveryCount answer
+
+-- fumizhaki_encode: the number of an answer that keeps encode's promise
+pub record EncodeOut (p : Plan) (d v : List ℕ) (number : ℕ) (v' : List ℕ) : Type 0 where
+  pub answer : Encoding
+  pub keeps : Encodes p d v answer v'
+  pub number-is : number ≡ encodingNumber answer
+
+-- fumizhaki_message_of: the number of an answer that keeps message_of's promise
+pub record MessageOut (p : Plan) (v d : List ℕ) (number : ℕ) (d' : List ℕ) : Type 0 where
+  pub answer : Reading
+  pub keeps : Reads p v d answer d'
+  pub number-is : number ≡ readingNumber answer

@@ -1,0 +1,154 @@
+// The C entry points: each hands its arguments to an entry of the library and gives the answer back as a number of document 01's table.
+// Declared for C in include/fumizhaki.h. What each promises is in specs/Entries.antt.
+ghost use mathlib.Core.Path.{_≡_};
+ghost use Rattle.plan.specs.Plans.{numberOf, verdictOf, planOf, straightOf, powersOf, rulerOf, messageCountOf};
+ghost use Rattle.calls.specs.Calls.{countedOf, countedNumber};
+ghost use Rattle.capi.specs.Entries.{numbered, messageNumber, messageValue, countedValue, FiguresOut, RecoverOut, EncodeOut, MessageOut};
+use calls::Counted;
+use figures::Answer;
+use plan::Count;
+use plan::Plan;
+
+// A constructor's answer by its number, with the plan beside it; a refusal makes none, and the record is all zeros.
+#[repr(C)]
+pub struct Made {
+    pub answer: u8,
+    pub plan: Plan,
+}
+
+fn number_made(made: plan::Made) -> Made
+    ensures { λ r. ⌜ r ≡ numbered made ⌝ }
+{
+    let answer = made.answer;
+    let plan = made.plan;
+    Made {
+        answer: answer.number(),
+        plan,
+    }
+}
+
+#[no_mangle]
+pub extern "C" fn fumizhaki_plan_of(n: usize, t: usize, shifts: &[u16]) -> Made
+    ensures { λ r. ⌜ r ≡ numbered (planOf n t (now (shifts .entry))) ⌝ }
+{
+    number_made(Plan::of(n, t, shifts))
+}
+
+#[no_mangle]
+pub extern "C" fn fumizhaki_straight(n: usize, t: usize) -> Made
+    ensures { λ r. ⌜ r ≡ numbered (straightOf n t) ⌝ }
+{
+    number_made(Plan::straight(n, t))
+}
+
+#[no_mangle]
+pub extern "C" fn fumizhaki_powers(n: usize, t: usize, q: usize) -> Made
+    ensures { λ r. ⌜ r ≡ numbered (powersOf n t q) ⌝ }
+{
+    number_made(Plan::powers(n, t, q))
+}
+
+#[no_mangle]
+pub extern "C" fn fumizhaki_ruler(n: usize) -> Made
+    ensures { λ r. ⌜ r ≡ numbered (rulerOf n) ⌝ }
+{
+    number_made(Plan::ruler(n))
+}
+
+#[no_mangle]
+pub extern "C" fn fumizhaki_verdict(plan: Plan) -> u8
+    ensures { λ r. ⌜ r ≡ numberOf (verdictOf plan) ⌝ }
+{
+    plan.verdict().number()
+}
+
+#[no_mangle]
+pub extern "C" fn fumizhaki_message_count(plan: Plan, count: &mut usize) -> u8
+    ensures { λ r. ⌜ r ≡ messageNumber (messageCountOf plan) ⌝ }
+    ensures { λ _. ⌜ now (count .exit) ≡ messageValue (messageCountOf plan) ⌝ }
+{
+    match plan.message_count() {
+        Count::Is(k) => {
+            *count = k;
+            0
+        }
+        Count::Not(v) => {
+            *count = 0;
+            v.number()
+        }
+    }
+}
+
+#[no_mangle]
+pub extern "C" fn fumizhaki_figures(
+    plan: Plan,
+    parity: &mut usize,
+    pair: &mut usize,
+    neighbour: &mut usize,
+    distance: &mut usize,
+) -> u8
+    ensures { λ r. ⌜ FiguresOut plan r (now (parity .exit)) (now (pair .exit)) (now (neighbour .exit)) (now (distance .exit)) ⌝ }
+{
+    match figures::figures(plan) {
+        Answer::Are(f) => {
+            *parity = f.parity;
+            *pair = f.pair;
+            *neighbour = f.neighbour;
+            *distance = f.distance;
+            0
+        }
+        Answer::Not(v) => {
+            *parity = 0;
+            *pair = 0;
+            *neighbour = 0;
+            *distance = 0;
+            v.number()
+        }
+    }
+}
+
+#[no_mangle]
+pub extern "C" fn fumizhaki_erasure_count(plan: Plan, marks: &[u8], count: &mut usize) -> u8
+    ensures { λ r. ⌜ r ≡ countedNumber (countedOf plan (now (marks .entry))) ⌝ }
+    ensures { λ _. ⌜ now (count .exit) ≡ countedValue (countedOf plan (now (marks .entry))) ⌝ }
+{
+    match calls::erasure_count(plan, marks) {
+        Counted::Marks(z) => {
+            *count = z;
+            0
+        }
+        Counted::Refused(x) => {
+            *count = 0;
+            x.number()
+        }
+    }
+}
+
+#[no_mangle]
+pub extern "C" fn fumizhaki_recover(
+    plan: Plan,
+    block: &mut [u8],
+    marks: &[u8],
+    witness: &mut [u16],
+    count: &mut usize,
+) -> u8
+    ensures { λ r. ⌜ RecoverOut plan (now (block .entry)) (now (marks .entry)) (now (witness .entry)) r (now (count .exit)) (now (block .exit)) (now (witness .exit)) ⌝ }
+{
+    let answer = recovery::recover(plan, block, marks, witness);
+    *count = answer.count();
+    answer.number()
+}
+
+#[no_mangle]
+pub extern "C" fn fumizhaki_encode(plan: Plan, message: &[u8], block: &mut [u8]) -> u8
+    ensures { λ r. ⌜ EncodeOut plan (now (message .entry)) (now (block .entry)) r (now (block .exit)) ⌝ }
+{
+    sealing::encode(plan, message, block).number()
+}
+
+#[no_mangle]
+pub extern "C" fn fumizhaki_message_of(plan: Plan, block: &[u8], message: &mut [u8]) -> u8
+    ensures { λ r. ⌜ MessageOut plan (now (block .entry)) (now (message .entry)) r (now (message .exit)) ⌝ }
+{
+    sealing::message_of(plan, block, message).number()
+}
