@@ -4,9 +4,12 @@ pub mod Codes
 pub mod Spots
 pub mod PictureLaws
 pub mod Sizes
+pub mod Sweeps
 pub mod SumLaws
 pub mod Filling
 pub mod Bounds
 pub mod Lowest
+pub mod Words
 pub mod Scan
+pub mod Stretches
 pub mod StuckLaws

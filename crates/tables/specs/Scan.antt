@@ -1,37 +1,41 @@
--- The scan of the marks, a byte at a time: the tables picture the erasures below the place that the scan has come to.
--- Main results: seen-start, seen-skip (places that are not noted), seen-note, seen-end; `fromPlace` selects the erasures from a place on.
+-- The scan of the marks, a word of 64 at a time: the tables picture the erasures below the place that the scan has come to.
+-- Main results: seen-start, seen-skip (places that are not noted), next-noted, the steps within a word (noting-start, noting-next, noting-more, noting-done),
+-- seen-end; `fromPlace` selects the erasures from a place on.
 use mathlib.Core.Path.{_≡_, refl, sym, _∙_, ap, subst, fun-ext}
+use mathlib.Core.Bool.{Bool, true, false}
 use mathlib.Core.Logic.{_≢_, ⊎-elim, by-cases}
 use mathlib.Core.List.{List, [], _∷_, _++_, List·Memᴰ·append-cases, List·Memᴰ·eq-of-singleton, Memᴰ·cast, Memᴰ·append-left, Memᴰ·append-right}
 use mathlib.Core.List.{List·Memᴰ·head as here, List·Memᴰ·not-nil as not-nil}
-use Prim.Native.Nat.{ℕ, _+_, _-_, _*_, _/_, _^_, _≤_, _<_}
+use Prim.Native.Nat.{ℕ, _+_, _-_, _*_, _/_, _≤_, _<_}
 use native.Mathlib.Nat.{mod-lt}
 use native.Mathlib.Decide.{ℕ-discrete, decLt}
 use native.Mathlib.Omega.{arith}
-use borrow.Author.Tests.{lt-ltb, le-ltb, ltb-true, le-leb, leb-true}
+use borrow.Author.Tests.{lt-ltb, le-ltb, ltb-true, le-leb, lt-leb, leb-true}
 use lib.Dec.{leb, ltb}
 use lib.ListN.{length, getD, set, replicate, length-replicate, getD-replicate}
 use lib.Seq.{getD-set-other}
+use lib.Bits.{bitAnd}
 use lib.Count.{trailingZeros}
-use lib.Pow.{shr-le, shr-shr}
 use Rattle.math.specs.Members.{_∈_, isIn, keep, Rising, rising-none, rising-more}
 use Rattle.math.specs.MembersLaws.{∈-keep, keep-∈, keep-all, keep-none, keep-ext, rising-keep, rising-append, rising-ext, decIn}
 use Rattle.math.specs.Xor.{_⊕_}
-use Rattle.math.specs.Sums.{xorOver}
+use Rattle.math.specs.Sums.{xorOver, only}
+use Rattle.math.specs.SumsLaws.{only-true, only-false}
 use Rattle.plan.specs.Layout.{Layout, layout, top, bottom, bottomRow}
 use Rattle.code.specs.Places.{places}
 use Rattle.code.specs.Codewords.{blank, bitOf}
 use Rattle.code.specs.Checks.{update}
 use Rattle.code.specs.Marks.{mark, erasures, NoSpare}
 use Rattle.code.specs.Laws.Settle.{update-same, update-other, blank-in, blank-out}
-use Rattle.code.specs.Laws.MarksLaws.{in-erasures, rising-erasures, mark-at}
+use Rattle.code.specs.Laws.MarksLaws.{in-erasures, rising-erasures}
 use Rattle.tables.specs.Picture.{Sized, Picture, codeOf, onRow}
-use Rattle.tables.specs.Spots.{Stands, stands-top, stands-bottom, stands-code, stands-inside}
+use Rattle.tables.specs.Spots.{Stands, Reached, reached-on, reached-stands, stands-top, stands-bottom, stands-code, stands-inside}
 use Rattle.tables.specs.Sizes.{layout-t, sized-valid, sized-∈, ∈-sized}
 use Rattle.tables.specs.SumLaws.{Syndromes}
 use Rattle.tables.specs.PictureLaws.{picture-add}
 use Rattle.tables.specs.Bounds.{left-room}
-use Rattle.tables.specs.Lowest.{zeros-below, first-one, bit-shifted, bit-beyond}
+use Rattle.tables.specs.Lowest.{zeros-below, first-one, bit-beyond, dropped-low, dropped-high, dropped-less}
+use Rattle.tables.specs.Words.{Clear, Word, word-late, past-last}
 
 -- the erasures from place a on
 unfoldable pub fromPlace : ℕ → List ℕ → List ℕ
@@ -239,10 +243,6 @@ pub seen-at : {n t : ℕ} {shifts block marks : List ℕ} {a c d : ℕ} {sum lef
     → Seen n t shifts block marks a d sum left code
 seen-at {n} {t} {shifts} {block} {marks} {a} {sum = sum} {left = left} {code = code} e S = subst (λ z. Seen n t shifts block marks a z sum left code) e S
 
-pub next-at : {n t : ℕ} {shifts block marks : List ℕ} {a c d : ℕ} {sum left code : List ℕ} → c ≡ d → Next n t shifts block marks a c sum left code
-    → Next n t shifts block marks a d sum left code
-next-at {n} {t} {shifts} {block} {marks} {a} {sum = sum} {left = left} {code = code} e N = subst (λ z. Next n t shifts block marks a z sum left code) e N
-
 pub seen-start : {n t : ℕ} {shifts block : List ℕ} (marks : List ℕ) (a : ℕ) {sum left code : List ℕ} → ((d : ℕ) → getD block d 0 < 256)
     → Syndromes n t shifts block sum → left ≡ replicate (2 * t) 0 → code ≡ replicate (2 * t) 0 → Seen n t shifts block marks a 0 sum left code
 unfolding blank isIn
@@ -265,10 +265,7 @@ module _ {n t : ℕ} {shifts block marks : List ℕ} {a c j k : ℕ} {sum left c
   next-section : j < n
   next-section = stands-inside st n (N .inside)
 
-  -- what is read is within the slices
-  pub next-symbol : c < length block
-  next-symbol = omega (arith, N .lent .block-long, N .inside)
-
+  -- the shift that is read is there
   pub next-shift : (j < length shifts) × (j < 32)
   next-shift = omega (arith, next-section, N .lent .sized .long, N .lent .sized .n-max)
 
@@ -285,10 +282,6 @@ module _ {n t : ℕ} {shifts block marks : List ℕ} {a c j k : ℕ} {sum left c
         code-long = N .seen .picture .code-long;
         room = λ r h. left-room (N .lent .sized) (N .seen .picture) h;
       }
-
-  -- it is below a
-  pub next-early : c < a → Seen n t shifts block marks a (c + 1) sum left code
-  next-early h = seen-skip (c + 1) (N .seen) (omega arith) (λ d x y m l. omega arith)
 
   -- it is noted
   pub next-noted : {sum' left' code' : List ℕ} → a ≤ c → Noted t (getD shifts j 0) (getD block c 0) j k sum left code sum' left' code'
@@ -330,84 +323,154 @@ module _ {n t : ℕ} {shifts block marks : List ℕ} {a c j k : ℕ} {sum left c
           (rw (T, v) (D .sum-top)) (rw (B, v) (D .sum-bottom)) (rw T (D .left-top)) (rw B (D .left-bottom))
           (rw (T, K) (D .code-top)) (rw (B, K) (D .code-bottom))
 
+-- the same at the section that the scan has reached
+module _ {n t : ℕ} {shifts block marks : List ℕ} {a c j begin end p : ℕ} {sum left code : List ℕ} (N : Next n t shifts block marks a c sum left code)
+    (R : Reached n t shifts c j begin end p) (h : c < end) where
+  pub next-here : Ready t p j (c - begin) sum left code
+  next-here = subst (λ z. Ready t z j (c - begin) sum left code) (sym (R .shift)) (next-ready N (reached-stands R h))
+
+  pub noted-here : {sum' left' code' : List ℕ} → a ≤ c → Noted t p (getD block c 0) j (c - begin) sum left code sum' left' code'
+      → Seen n t shifts block marks a (c + 1) sum' left' code'
+  noted-here {sum'} {left'} {code'} l D =
+      next-noted N (reached-stands R h) l
+      (subst (λ z. Noted t z (getD block c 0) j (c - begin) sum left code sum' left' code') (R .shift) D)
+
 -- with no spare bit set, a marked place is a place
-marked-inside : {n t : ℕ} {shifts block marks : List ℕ} → Lent n t shifts block marks → (c : ℕ) → c < 8 * length marks → mark marks c ≡ 1 → c < n * t
+pub marked-inside : {n t : ℕ} {shifts block marks : List ℕ} → Lent n t shifts block marks → (c : ℕ) → mark marks c ≡ 1 → c < n * t
 unfolding NoSpare layout
-marked-inside {n} {t} lent c h m =
-    by-cases (decLt c (n * t)) (λ l. l) (λ l. absurd (omega (arith, sym (lent .no-spare c (omega arith) h) ∙ m)))
+marked-inside {n} {t} {marks = marks} lent c m =
+    by-cases (decLt c (n * t)) (λ l. l)
+    (λ l. by-cases (decLt c (8 * length marks))
+    (λ h. absurd (omega (arith, sym (lent .no-spare c (omega arith) h) ∙ m)))
+    (λ h. absurd (omega (arith, sym (past-last marks c (omega arith)) ∙ m))))
 
--- byte i of the marks, of which the bits from p on are left, as the number `rest`
-module _ {n t : ℕ} {shifts block marks : List ℕ} (lent : Lent n t shifts block marks) (i : ℕ) (small : getD marks i 0 < 256) (p : ℕ) {rest : ℕ}
-    (left-over : rest ≡ getD marks i 0 / 2 ^ p) where
-  bit-of : (b : ℕ) → bitOf b rest ≡ bitOf (p + b) (getD marks i 0)
-  bit-of b = ap (bitOf b) left-over ∙ bit-shifted p b (getD marks i 0)
+pub only-one : (b : Bool) (x : ℕ) → only b x ≡ 1 → (b ≡ true) × (x ≡ 1)
+unfolding only
+only-one true x e = (refl, e)
+only-one false x e = absurd (omega arith)
 
-  rest-small : rest < 256
-  rest-small = let h = shr-le (getD marks i 0) p in omega arith
+-- The word of marks from place c on. Every place below `next` is seen, and the bits of `rest` are the places from there on that are still to be noted;
+-- the section is one that begins at or before `next`.
+pub record Noting (n t : ℕ) (shifts block marks : List ℕ) (a c rest j begin end p : ℕ) (sum left code : List ℕ) : Type 0 where
+  pub next : ℕ
+  pub seen : Seen n t shifts block marks a next sum left code
+  pub reached : Reached n t shifts next j begin end p
+  pub late : a ≤ next
+  pub from-word : c ≤ next
+  pub in-word : next ≤ c + 64
+  pub word : Word marks next c rest
+
+pub noting-start : {n t : ℕ} {shifts block marks : List ℕ} {a c w j begin end p : ℕ} {sum left code : List ℕ} → Seen n t shifts block marks a c sum left code
+    → Reached n t shifts c j begin end p → a ≤ c + 64 → Word marks a c w → Noting n t shifts block marks a c w j begin end p sum left code
+noting-start {a = a} {c = c} S R h W =
+    by-cases (decLt c a)
+    (λ l. record {
+      next = a;
+      seen = seen-skip a S (omega arith) (λ d x y m k. omega arith);
+      reached = reached-on a (omega arith) R;
+      late = omega arith;
+      from-word = omega arith;
+      in-word = h;
+      word = W;
+    })
+    (λ l. record {
+      next = c;
+      seen = S;
+      reached = R;
+      late = omega arith;
+      from-word = omega arith;
+      in-word = omega arith;
+      word = word-late c W (omega arith) (omega arith);
+    })
+
+module _ {n t : ℕ} {shifts block marks : List ℕ} {a c rest j begin end p : ℕ} {sum left code : List ℕ}
+    (G : Noting n t shifts block marks a c rest j begin end p sum left code) where
+  -- a place whose bit is 0 is not marked
+  no-mark : (d : ℕ) → G .next ≤ d → d < c + 64 → bitOf (d - c) rest ≡ 0 → mark marks d ≡ 1 → ⊥
+  no-mark d h l z m =
+      let g : c ≤ d = omega (arith, G .from-word) in
+      let e : c + (d - c) ≡ d = omega arith in
+      let q = G .word .each (d - c) (omega arith) in
+      let o : only (leb (G .next) (c + (d - c))) (mark marks (c + (d - c))) ≡ 1
+      = only-true (mark marks (c + (d - c))) (le-leb (G .next) (c + (d - c)) (omega arith)) ∙ ap (mark marks) e ∙ m in
+      omega (arith, sym z ∙ q ∙ o)
 
   -- none is left
-  pub byte-done : {a : ℕ} {sum left code : List ℕ} → rest ≡ 0 → p ≤ 8 → Seen n t shifts block marks a (8 * i + p) sum left code
-      → Seen n t shifts block marks a (8 * i + 8) sum left code
-  byte-done z h S =
-      seen-skip (8 * i + 8) S (omega arith)
-      (λ d x y m l. no-mark d (d - (8 * i + p)) (omega arith) (omega arith) m)
-    where
-      no-mark : (d b : ℕ) → d ≡ 8 * i + (p + b) → p + b < 8 → mark marks d ≡ 1 → ⊥
-      no-mark d b e g m =
-          let q : mark marks d ≡ 0 = ap (mark marks) e ∙ mark-at marks i (p + b) g ∙ sym (bit-of b) ∙ ap (bitOf b) z ∙ bit-beyond 0 b 0 (omega arith) (omega arith) in
-          omega (arith, sym q ∙ m)
+  pub noting-done : rest ≡ 0 → Seen n t shifts block marks a (c + 64) sum left code
+  noting-done z =
+      seen-skip (c + 64) (G .seen) (G .in-word)
+      (λ d x y m l. no-mark d x y (ap (bitOf (d - c)) z ∙ bit-beyond 0 (d - c) 0 (omega arith) (omega arith)) m)
+
+  pub noting-section : Reached n t shifts (c + 64) j begin end p
+  noting-section = reached-on (c + 64) (G .in-word) (G .reached)
 
   module _ (some : rest ≢ 0) where
-    -- the lowest mark that is left
-    one-here : bitOf (p + trailingZeros 8 rest) (getD marks i 0) ≡ 1
-    one-here = sym (bit-of (trailingZeros 8 rest)) ∙ first-one 8 rest rest-small some
+    -- the lowest that is left
+    pub noting-bit : trailingZeros 64 rest < 64
+    noting-bit =
+        by-cases (decLt (trailingZeros 64 rest) 64) (λ h. h)
+        (λ h. absurd (omega (arith, sym (first-one 64 rest (G .word .small) some) ∙ bit-beyond 64 (trailingZeros 64 rest) rest (G .word .small) (omega arith))))
 
-    pub byte-bit : p + trailingZeros 8 rest < 8
-    byte-bit =
-        by-cases (decLt (p + trailingZeros 8 rest) 8) (λ h. h)
-        (λ h. absurd (omega (arith, sym one-here ∙ bit-beyond 8 (p + trailingZeros 8 rest) (getD marks i 0) small (omega arith))))
+    its-mark : (leb (G .next) (c + trailingZeros 64 rest) ≡ true) × (mark marks (c + trailingZeros 64 rest) ≡ 1)
+    its-mark =
+        only-one (leb (G .next) (c + trailingZeros 64 rest)) (mark marks (c + trailingZeros 64 rest))
+        (sym (G .word .each (trailingZeros 64 rest) noting-bit) ∙ first-one 64 rest (G .word .small) some)
 
-    pub byte-next : {a : ℕ} {sum left code : List ℕ} → i < length marks
-        → Seen n t shifts block marks a (8 * i + p) sum left code → Next n t shifts block marks a (8 * i + (p + trailingZeros 8 rest)) sum left code
-    byte-next h S =
+    after : G .next ≤ c + trailingZeros 64 rest
+    after = leb-true (G .next) (c + trailingZeros 64 rest) (its-mark .0)
+
+    pub noting-late : a ≤ c + trailingZeros 64 rest
+    noting-late = omega (arith, after, G .late)
+
+    pub noting-reached : Reached n t shifts (c + trailingZeros 64 rest) j begin end p
+    noting-reached = reached-on (c + trailingZeros 64 rest) after (G .reached)
+
+    pub noting-next : Lent n t shifts block marks → Next n t shifts block marks a (c + trailingZeros 64 rest) sum left code
+    noting-next lent =
         record {
           lent = lent;
-          seen = seen-skip (8 * i + (p + trailingZeros 8 rest)) S (omega arith) (λ d x y m l. no-mark d (d - (8 * i + p)) (omega arith) (omega arith) m);
-          inside = inside;
-          marked = marked;
+          seen = seen-skip (c + trailingZeros 64 rest) (G .seen) after
+              (λ d x y m l. no-mark d x (omega (arith, noting-bit)) (zeros-below 64 rest (d - c) (omega (arith, G .from-word))) m);
+          inside = marked-inside lent (c + trailingZeros 64 rest) (its-mark .1);
+          marked = its-mark .1;
         }
-      where
-        no-mark : (d b : ℕ) → d ≡ 8 * i + (p + b) → b < trailingZeros 8 rest → mark marks d ≡ 1 → ⊥
-        no-mark d b e g m =
-            let l : p + b < 8 = omega (arith, byte-bit) in
-            let q : mark marks d ≡ 0 = ap (mark marks) e ∙ mark-at marks i (p + b) l ∙ sym (bit-of b) ∙ zeros-below 8 rest b g in
-            omega (arith, sym q ∙ m)
 
-        marked : mark marks (8 * i + (p + trailingZeros 8 rest)) ≡ 1
-        marked = mark-at marks i (p + trailingZeros 8 rest) byte-bit ∙ one-here
+    -- it is noted, and cleared in the word
+    pub noting-more : {j' begin' end' p' : ℕ} {sum' left' code' : List ℕ} → Seen n t shifts block marks a (c + trailingZeros 64 rest + 1) sum' left' code'
+        → Reached n t shifts (c + trailingZeros 64 rest) j' begin' end' p'
+        → Noting n t shifts block marks a c (bitAnd rest (rest - 1)) j' begin' end' p' sum' left' code'
+    noting-more S R =
+        let z : ℕ = trailingZeros 64 rest in
+        record {
+          next = c + z + 1;
+          seen = S;
+          reached = reached-on (c + z + 1) (omega arith) R;
+          late = omega (arith, noting-late);
+          from-word = omega arith;
+          in-word = omega (arith, noting-bit);
+          word = record {
+            small = omega (arith, dropped-less 64 rest (G .word .small) some, G .word .small);
+            each = λ b h. by-cases (decLt z b)
+                (λ l. dropped-high 64 rest (G .word .small) some b l ∙ G .word .each b h
+                ∙ ap (λ y. only y (mark marks (c + b))) (le-leb (G .next) (c + b) (omega (arith, after)) ∙ sym (le-leb (c + z + 1) (c + b) (omega arith))))
+                (λ l. dropped-low 64 rest (G .word .small) some b (omega arith) ∙ sym (only-false (mark marks (c + b)) (lt-leb (c + z + 1) (c + b) (omega arith))));
+          };
+        }
 
-        inside : 8 * i + (p + trailingZeros 8 rest) < n * t
-        inside = marked-inside lent (8 * i + (p + trailingZeros 8 rest)) (omega (arith, byte-bit)) marked
+-- the scan begins at the word of place a
+pub seen-first : {n t : ℕ} {shifts block marks : List ℕ} {a : ℕ} {sum left code : List ℕ} (c : ℕ) → c ≤ a → Seen n t shifts block marks a 0 sum left code
+    → Seen n t shifts block marks a c sum left code
+seen-first c h S = seen-skip c S (omega arith) (λ d x y m l. omega arith)
 
-    pub byte-rest : rest / 2 ^ trailingZeros 8 rest / 2 ^ 1 ≡ getD marks i 0 / 2 ^ (p + trailingZeros 8 rest + 1)
-    byte-rest =
-        ap (λ y. y / 2 ^ trailingZeros 8 rest / 2 ^ 1) left-over
-        ∙ ap (λ y. y / 2 ^ 1) (shr-shr (getD marks i 0) p (trailingZeros 8 rest)) ∙ shr-shr (getD marks i 0) (p + trailingZeros 8 rest) 1
+-- words of zeros are passed
+pub seen-clear : {n t : ℕ} {shifts block marks : List ℕ} {a i r : ℕ} {sum left code : List ℕ} → Clear marks i r
+    → Seen n t shifts block marks a (8 * i) sum left code → Seen n t shifts block marks a (8 * r) sum left code
+seen-clear {r = r} C S = seen-skip (8 * r) S (omega (arith, C .order)) (λ d x y m l. omega (arith, sym (C .none d x y) ∙ m))
 
--- the walk from byte to byte
-pub byte-first : (x : ℕ) → x ≡ x / 2 ^ 0
-byte-first x = omega arith
+pub words-end : {n t : ℕ} {shifts block marks : List ℕ} → Lent n t shifts block marks → (i : ℕ) → length marks ≤ i → n * t ≤ 8 * i
+words-end lent i h = omega (arith, lent .marks-long)
 
-pub byte-place : {n t : ℕ} {shifts block marks : List ℕ} → Lent n t shifts block marks → (i : ℕ) {c : ℕ} → c ≡ 8 * i → i < length marks → c < 32768
-byte-place lent i e h = omega (arith, lent .marks-long, lent .sized .places-max)
-
-pub byte-on : {c c' : ℕ} (i : ℕ) → c ≡ 8 * i → c' ≡ c + 8 → c' ≡ 8 * (i + 1)
-byte-on i e f = omega arith
-
-pub bytes-end : {n t : ℕ} {shifts block marks : List ℕ} → Lent n t shifts block marks → (i : ℕ) → length marks ≤ i → n * t ≤ 8 * i
-bytes-end lent i h = omega (arith, lent .marks-long)
-
--- the scan has passed the last byte
+-- the scan has passed the last word
 pub seen-end : {n t : ℕ} {shifts block marks : List ℕ} {a c : ℕ} {sum left code : List ℕ} → Lent n t shifts block marks
     → Seen n t shifts block marks a c sum left code → n * t ≤ c
     → Picture (layout n t shifts) (fromPlace a (erasures (layout n t shifts) marks))

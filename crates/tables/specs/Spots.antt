@@ -1,10 +1,12 @@
 -- A place with its section and offset, as a walk carries them.
--- Main results: the steps of a walk, and the section, the rows and the code of a place where a walk stands.
+-- Main results: the section, the rows and the code of a place where a walk stands, and the section that a scan has reached.
 use mathlib.Core.Path.{_≡_, sym}
+use mathlib.Core.Logic.{by-cases}
 use mathlib.Core.List.{List}
 use Prim.Native.Nat.{ℕ, _+_, _-_, _*_, _/_, _%_, _≤_, _<_}
-use native.Mathlib.Nat.{mod-lt, add-mod-right, mod-eq-of-lt, div-lt-iff-lt-mul, mul-le-mul-left, mul-one, suc-mul}
+use native.Mathlib.Nat.{mod-lt, add-mod-right, mod-eq-of-lt, div-lt-iff-lt-mul, mul-le-mul-right, suc-mul}
 use native.Mathlib.Numerals.{add-one}
+use native.Mathlib.Decide.{decLt}
 use native.Mathlib.Omega.{arith}
 use lib.Arith.{digits-div, digits-mod}
 use lib.ListN.{getD}
@@ -16,29 +18,6 @@ use Rattle.tables.specs.Codes.{code-offset, code-place}
 pub record Stands (t c j k : ℕ) : Type 0 where
   pub whole : c ≡ j * t + k
   pub within : k < t
-
-pub stands-start : {t : ℕ} → 0 < t → Stands t 0 0 0
-stands-start {t} h = record { whole = omega arith; within = h }
-
-pub stands-on : {t c j k : ℕ} → Stands t c j k → k + 1 < t → Stands t (c + 1) j (k + 1)
-stands-on s h = record { whole = omega arith; within = h }
-
--- one section on
-pub next-section : (t j k : ℕ) → t ≤ k → (j + 1) * t + (k - t) ≡ j * t + k
-next-section t j k h = rw (add-one j, suc-mul) (omega arith)
-
-pub stands-over : {t c j k : ℕ} → Stands t c j k → t ≤ k + 1 → Stands t (c + 1) (j + 1) 0
-stands-over {t} {c} {j} {k} s h =
-    let e : k + 1 - t ≡ 0 = omega arith in
-    let f = next-section t j (k + 1) h in
-    record { whole = omega arith; within = omega arith }
-
--- there are no more sections than places
-pub sections-le : (t c j k : ℕ) → 0 < t → c ≡ j * t + k → j ≤ c
-sections-le t c j k h e = let f : 1 ≤ t = omega arith in omega (arith, mul-le-mul-left j f, mul-one j)
-
-pub stands-small : {t c j k : ℕ} → Stands t c j k → j ≤ c
-stands-small {t} {c} {j} {k} s = sections-le t c j k (omega arith) (s .whole)
 
 module _ {t c j k : ℕ} (s : Stands t c j k) where
   pub stands-section : c / t ≡ j
@@ -78,3 +57,28 @@ bottom-high t p k l h = rw (mod-eq-of-lt {n = k + t - p} {m = t} (omega arith))
 -- a place as its code says
 pub stands-coded : (t c : ℕ) → 0 < t → t ≤ 2048 → Stands t c (codeOf t c / 2048) (codeOf t c % 2048)
 stands-coded t c h l = record { whole = sym (code-place t h l c); within = rw (code-offset t h l c) (mod-lt c h) }
+
+-- a scan that has come to place c knows of a section j that begins at or before it: its first place, the place after its last, its shift
+pub record Reached (n t : ℕ) (shifts : List ℕ) (c j begin end p : ℕ) : Type 0 where
+  pub inside : j < n
+  pub begins : begin ≡ j * t
+  pub ends : end ≡ begin + t
+  pub shift : p ≡ getD shifts j 0
+  pub passed : begin ≤ c
+
+pub reached-on : {n t : ℕ} {shifts : List ℕ} {c j begin end p : ℕ} (c' : ℕ) → c ≤ c' → Reached n t shifts c j begin end p → Reached n t shifts c' j begin end p
+reached-on c' h R = record { inside = R .inside; begins = R .begins; ends = R .ends; shift = R .shift; passed = omega (arith, R .passed) }
+
+-- the section after j holds a place too
+pub section-next : (n t j c : ℕ) → j * t + t ≤ c → c < n * t → (j + 1 < n) × ((j + 1) * t ≡ j * t + t)
+section-next n t j c h l =
+    let e : (j + 1) * t ≡ j * t + t = rw (add-one j, suc-mul) in
+    (by-cases (decLt (j + 1) n) (λ g. g) (λ g. let f : n ≤ j + 1 = omega arith in absurd (omega (arith, mul-le-mul-right t f))), e)
+
+pub reached-stands : {n t : ℕ} {shifts : List ℕ} {c j begin end p : ℕ} → Reached n t shifts c j begin end p → c < end → Stands t c j (c - begin)
+reached-stands R h = record { whole = omega (arith, R .begins, R .passed); within = omega (arith, R .ends, R .passed) }
+
+-- the section that ends first after place c
+pub reached-end : {n t : ℕ} {shifts : List ℕ} {c j end p : ℕ} → j < n → end ≡ j * t + t → end ≤ c + t → p ≡ getD shifts j 0
+    → Reached n t shifts c j (end - t) end p
+reached-end h e l q = record { inside = h; begins = omega arith; ends = omega arith; shift = q; passed = omega arith }

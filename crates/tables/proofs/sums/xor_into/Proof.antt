@@ -4,18 +4,19 @@ use mathlib.Core.Path.{refl}
 use native.Mathlib.Omega.{arith}
 use lib.ListN.{length}
 use Rattle.math.specs.Xor.{_⊕_}
-use Rattle.tables.specs.SumLaws.{XoredTo, xored-none, xored-more, xored-all}
+use Rattle.tables.specs.SumLaws.{xored-all}
+use Rattle.tables.specs.Sweeps.{MappedTo, withSymbol, mapped-none, mapped-more, mapped-all}
 use Rattle.tables.proofs.sums.xor_into.Statement.{statement}
 use Rattle.tables.proofs.sums.xor_into.Tie as tie
 
 abbrev Inv-loop : tie.InvT-loop
-Inv-loop dst₀ src i₀ dst i = (i ≤ length dst₀) × XoredTo dst₀ src i dst
+Inv-loop dst₀ src i₀ dst i = (i ≤ length dst₀) × MappedTo (withSymbol src) dst₀ i dst
 
 abbrev μ-loop : tie.MeasureT-loop
 μ-loop dst₀ src i₀ dst i = length dst₀ - i
 
 loop-holds : tie.Need-loop-holds Inv-loop μ-loop
-loop-holds c = (omega arith, xored-none (c .args .dst .now) (c .args .src .now))
+loop-holds c = (omega arith, mapped-none (withSymbol (c .args .src .now)) (c .args .dst .now))
 
 slice-read-dst : tie.Need-slice-read-dst Inv-loop μ-loop
 slice-read-dst c = omega arith
@@ -34,13 +35,13 @@ loop-less c = omega arith
 
 loop-again : tie.Need-loop-again Inv-loop μ-loop
 unfolding _⊕_
-loop-again c = (omega arith, xored-more _ (c .before .before .before .loop .inv .1) (omega arith) refl)
+loop-again c = (omega arith, mapped-more _ (c .before .before .before .loop .inv .1) (omega arith) refl)
 
 same-length : tie.Need-same-length Inv-loop μ-loop
 same-length c = c .before .loop .inv .1 .long
 
 returns : tie.Need-returns Inv-loop μ-loop
-returns c = xored-all (c .before .loop .inv .1) (c .before .before .pre) (omega arith)
+returns c = xored-all (mapped-all (c .before .loop .inv .1) (omega arith)) (c .before .before .pre)
 
 pub xor-into-spec : {M : Type 1} → statement M
 xor-into-spec =
