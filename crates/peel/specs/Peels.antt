@@ -1,28 +1,28 @@
 -- What the functions of peeling promise, from the settling of one row up to `peel` (Peels), and the loop's invariant (Peeling).
 -- L is always the layout of n, t and the shifts.
-use mathlib.Core.Path.{_≡_, sym, _∙_, ap, subst, subst₃}
-use mathlib.Core.Logic.{_≢_, inl, inr, ⊎-elim}
+use mathlib.Core.Path.{_≡_, sym, _∙_, ap, subst}
+use mathlib.Core.Logic.{_≢_, _⊎_, inl, inr, ⊎-elim}
 use mathlib.Core.List.{List}
 use Prim.Native.Nat.{ℕ, _+_, _-_, _*_, _/_, _%_, _≤_, _<_}
 use native.Mathlib.Nat.{mod-lt}
 use native.Mathlib.Omega.{arith}
 use lib.Arith.{digits-lt}
 use lib.ListN.{length, getD, set, length-set}
-use lib.Seq.{getD-set-other}
+use lib.Seq.{getD-set-same, getD-set-other}
 use Rattle.math.specs.Members.{_∈_, without}
 use Rattle.math.specs.MembersLaws.{upTo-∈}
-use Rattle.math.specs.Xor.{_⊕_}
+use Rattle.math.specs.Xor.{_⊕_, ⊕-self}
 use Rattle.plan.specs.Layout.{Layout, layout, placeOf, topRow, bottomRow, top, bottom}
 use Rattle.code.specs.Places.{places, Meets}
 use Rattle.code.specs.Codewords.{syndrome}
 use Rattle.code.specs.Checks.{update}
-use Rattle.code.specs.Laws.Basics.{places-∈, top-lt, bottom-lt, top≢bottom}
-use Rattle.tables.specs.Picture.{Sized, codeOf, Picture, Pictured, Settles, Stuck}
-use Rattle.tables.specs.PictureLaws.{Touched, touched, picture-remove}
+use Rattle.code.specs.Laws.Basics.{places-∈, top-lt, bottom-ge, top≢bottom, meets-row}
+use Rattle.tables.specs.Picture.{Sized, Picture, Pictured, Settles, Stuck}
+use Rattle.tables.specs.PictureLaws.{Touched, picture-less}
 use Rattle.tables.specs.Sizes.{sized-valid}
 use Rattle.tables.specs.Bounds.{left-some}
 use Rattle.peel.specs.Queue.{Queued, Waits, Enters, Lowers, room, full, entered, passed, taken, emptied}
-use Rattle.peel.specs.Settling.{Single, single, row-forces, syndrome-byte, settles-none, settles-more}
+use Rattle.peel.specs.Settling.{Single, single, row-forces, syndrome-byte, touched-two, settles-none, settles-more}
 
 -- k is the code of a place: its section and its offset are within the plan
 pub record Within (n t : ℕ) (shifts : List ℕ) (k : ℕ) : Type 0 where
@@ -30,11 +30,10 @@ pub record Within (n t : ℕ) (shifts : List ℕ) (k : ℕ) : Type 0 where
   pub section : k / 2048 < n
   pub offset : k % 2048 < t
 
--- the place and the two rows that k is the code of
-pub record Located (t : ℕ) (shifts : List ℕ) (k c a b : ℕ) : Type 0 where
-  pub place : c ≡ placeOf t (k / 2048) (k % 2048)
-  pub top : a ≡ topRow (k % 2048)
-  pub bottom : b ≡ bottomRow t (getD shifts (k / 2048) 0) (k % 2048)
+-- b is the row that a place of code k meets beside row r; r is its top row if it is below t
+pub record Beside (t : ℕ) (shifts : List ℕ) (k r b : ℕ) : Type 0 where
+  pub of-top : r < t → b ≡ bottomRow t (getD shifts (k / 2048) 0) (k % 2048)
+  pub of-bottom : t ≤ r → b ≡ topRow (k % 2048)
 
 -- k in parts: j its section, o its offset
 module _ {n t : ℕ} {shifts : List ℕ} {k j o : ℕ} (w : Within n t shifts k) (ej : j ≡ k / 2048) (eo : o ≡ k % 2048) where
@@ -47,49 +46,55 @@ module _ {n t : ℕ} {shifts : List ℕ} {k j o : ℕ} (w : Within n t shifts k)
   pub within-rows : (o < t) × (getD shifts j 0 < t) × (t ≤ 2048)
   within-rows = (rw eo (w .offset), w .sized .below j (rw ej (w .section)), w .sized .t-max)
 
-  pub located : {c a b : ℕ} → c ≡ placeOf t j o → a ≡ topRow o → b ≡ bottomRow t (getD shifts j 0) o → Located t shifts k c a b
-  located ec ea eb = record {
-    place = ec ∙ ap (λ j. placeOf t j o) ej ∙ ap (placeOf t (k / 2048)) eo;
-    top = ea ∙ ap topRow eo;
-    bottom = eb ∙ ap (λ j. bottomRow t (getD shifts j 0) o) ej ∙ ap (bottomRow t (getD shifts (k / 2048) 0)) eo;
+  pub beside-top : {r b : ℕ} → r < t → b ≡ bottomRow t (getD shifts j 0) o → Beside t shifts k r b
+  beside-top h e = record {
+    of-top = λ _. e ∙ ap (λ j. bottomRow t (getD shifts j 0) o) ej ∙ ap (bottomRow t (getD shifts (k / 2048) 0)) eo;
+    of-bottom = λ l. absurd (omega arith);
   }
 
--- two rows, each with an erasure left
-pub record Rows (sum left code : List ℕ) (a b : ℕ) : Type 0 where
-  pub apart : a ≢ b
-  pub sum-top : a < length sum
-  pub sum-bottom : b < length sum
-  pub left-top : a < length left
-  pub left-bottom : b < length left
-  pub code-top : a < length code
-  pub code-bottom : b < length code
-  pub some-top : 1 ≤ getD left a 0
-  pub some-bottom : 1 ≤ getD left b 0
+pub beside-bottom : {t : ℕ} {shifts : List ℕ} {k o r b : ℕ} → o ≡ k % 2048 → t ≤ r → b ≡ topRow o → Beside t shifts k r b
+beside-bottom eo h e = record { of-top = λ l. absurd (omega arith); of-bottom = λ _. e ∙ ap topRow eo }
 
--- a place of code k and value x is taken out of row a and then of row b
-pub record Removes (sum left code sum' left' code' : List ℕ) (a b k x : ℕ) : Type 0 where
-  pub sum₁ : List ℕ
-  pub left₁ : List ℕ
-  pub code₁ : List ℕ
-  pub sum-top : sum₁ ≡ set sum a (getD sum a 0 ⊕ x)
-  pub sum-bottom : sum' ≡ set sum₁ b (getD sum₁ b 0 ⊕ x)
-  pub left-top : left₁ ≡ set left a (getD left a 0 - 1)
-  pub left-bottom : left' ≡ set left₁ b (getD left₁ b 0 - 1)
-  pub code-top : code₁ ≡ set code a (getD code a 0 ⊕ k)
-  pub code-bottom : code' ≡ set code₁ b (getD code₁ b 0 ⊕ k)
+-- two rows that the tables have, the second with an erasure left
+pub record Rows (sum left code : List ℕ) (a b : ℕ) : Type 0 where
+  pub sum-row : a < length sum
+  pub left-row : a < length left
+  pub code-row : a < length code
+  pub sum-other : b < length sum
+  pub left-other : b < length left
+  pub code-other : b < length code
+  pub some-other : 1 ≤ getD left b 0
+  pub apart : a ≢ b
+
+-- a place of code k and value x is taken out of row a, which has no other erasure, and of row b, where `rest` are left
+pub record Removes (sum left code sum' left' code' : List ℕ) (a b k x rest : ℕ) : Type 0 where
+  pub sums : sum' ≡ set (set sum a 0) b (getD (set sum a 0) b 0 ⊕ x)
+  pub lefts : left' ≡ set (set left a 0) b (getD (set left a 0) b 0 - 1)
+  pub codes : code' ≡ set (set code a 0) b (getD (set code a 0) b 0 ⊕ k)
+  pub rests : rest ≡ getD left' b 0
 
 module _ {sum left code : List ℕ} {a b : ℕ} (h : Rows sum left code a b) where
-  pub rows-after : {left₁ code₁ : List ℕ} (k : ℕ) → left₁ ≡ set left a (getD left a 0 - 1) → code₁ ≡ set code a (getD code a 0 ⊕ k)
-      → (b < length left₁) × (b < length code₁) × (1 ≤ getD left₁ b 0)
-  rows-after k e f =
-      rw (
-        e,
-        f,
-        length-set left a (getD left a 0 - 1),
-        length-set code a (getD code a 0 ⊕ k),
-        getD-set-other left a b (getD left a 0 - 1) 0 (λ q. h .apart (sym q)),
-      )
-      (h .left-bottom, h .code-bottom, h .some-bottom)
+  pub rows-sum : b < length (set sum a 0)
+  rows-sum = rw (length-set sum a 0) (h .sum-other)
+
+  pub rows-left : b < length (set left a 0)
+  rows-left = rw (length-set left a 0) (h .left-other)
+
+  pub rows-code : b < length (set code a 0)
+  rows-code = rw (length-set code a 0) (h .code-other)
+
+  pub rows-some : 1 ≤ getD (set left a 0) b 0
+  rows-some = rw (getD-set-other left a b 0 0 (λ q. h .apart (sym q))) (h .some-other)
+
+  pub removes : {sum' left' code' : List ℕ} {k x rest : ℕ} → sum' ≡ set (set sum a 0) b (getD (set sum a 0) b 0 ⊕ x)
+      → rest ≡ getD (set left a 0) b 0 - 1 → left' ≡ set (set left a 0) b rest → code' ≡ set (set code a 0) b (getD (set code a 0) b 0 ⊕ k)
+      → Removes sum left code sum' left' code' a b k x rest
+  removes {rest} s r l c = record {
+    sums = s;
+    lefts = l ∙ ap (set (set left a 0) b) r;
+    codes = c;
+    rests = rw l (sym (getD-set-same (set left a 0) b rest 0 rows-left));
+  }
 
 -- row r has one erasure left
 pub record One (n t : ℕ) (shifts sum left code : List ℕ) (r : ℕ) : Type 0 where
@@ -134,56 +139,76 @@ module _ {n t : ℕ} {shifts sum left code : List ℕ} {r : ℕ} (o : One n t sh
         offset = subst (λ k. k < t) (sym (s .offset)) (mod-lt _ (o .sized .t-min));
       }
 
-  module _ {c a b : ℕ} (f : Located t shifts (getD code r 0) c a b) where
+  module _ {c b : ℕ} (ec : c ≡ placeOf t (getD code r 0 / 2048) (getD code r 0 % 2048)) (f : Beside t shifts (getD code r 0) r b) where
     spot-single : {E : List ℕ} {u : ℕ → ℕ} → Picture (layout n t shifts) E u sum left code → Single (layout n t shifts) E r (getD code r 0) c
-    spot-single {E} p = subst (λ c. Single (layout n t shifts) E r (getD code r 0) c) (sym (f .place)) (only-one p)
+    spot-single {E} p = subst (λ c. Single (layout n t shifts) E r (getD code r 0) c) (sym ec) (only-one p)
 
-    spot-top : a ≡ top (layout n t shifts) c
+    spot-top : b ≡ topRow (getD code r 0 % 2048) → b ≡ top (layout n t shifts) c
     unfolding layout Rattle.plan.specs.Layout.top
-    spot-top = f .top ∙ ap topRow (spot-single (o .pictured .picture) .offset)
+    spot-top e = e ∙ ap topRow (spot-single (o .pictured .picture) .offset)
 
-    spot-bottom : b ≡ bottom (layout n t shifts) c
+    spot-bottom : b ≡ bottomRow t (getD shifts (getD code r 0 / 2048) 0) (getD code r 0 % 2048) → b ≡ bottom (layout n t shifts) c
     unfolding layout Rattle.plan.specs.Layout.bottom
-    spot-bottom =
+    spot-bottom e =
         let s = spot-single (o .pictured .picture) in
-        f .bottom ∙ ap (λ j. bottomRow t (getD shifts j 0) (getD code r 0 % 2048)) (s .section)
+        e ∙ ap (λ j. bottomRow t (getD shifts j 0) (getD code r 0 % 2048)) (s .section)
         ∙ ap (λ k. bottomRow t (getD shifts (c / t) 0) k) (s .offset)
 
-    row-a : a < 2 * t
+    -- r and b are the two rows of c, in one order or the other
+    sides : ((r ≡ top (layout n t shifts) c) × (b ≡ bottom (layout n t shifts) c)) ⊎ ((r ≡ bottom (layout n t shifts) c) × (b ≡ top (layout n t shifts) c))
     unfolding layout
-    row-a = omega (arith, spot-top, top-lt (layout n t shifts) (sized-valid (o .sized)) c)
+    sides =
+        let L = layout n t shifts in
+        ⊎-elim
+        (λ h. inl (h, spot-bottom (f .of-top (omega (arith, h, top-lt L (sized-valid (o .sized)) c)))))
+        (λ h. inr (h, spot-top (f .of-bottom (omega (arith, h, bottom-ge L (sized-valid (o .sized)) c)))))
+        (spot-single (o .pictured .picture) .meet)
+
+    other-meets : Meets (layout n t shifts) c b
+    other-meets = ⊎-elim (λ h. inr (h .1)) (λ h. inl (h .1)) sides
+
+    both : (s : ℕ) → Meets (layout n t shifts) c s → (s ≡ r) ⊎ (s ≡ b)
+    both s m =
+        ⊎-elim
+        (λ h. ⊎-elim (λ k. inl (k ∙ sym (h .0))) (λ k. inr (k ∙ sym (h .1))) m)
+        (λ h. ⊎-elim (λ k. inr (k ∙ sym (h .1))) (λ k. inl (k ∙ sym (h .0))) m)
+        sides
+
+    r≢b : r ≢ b
+    r≢b e =
+        let n = top≢bottom (layout n t shifts) (sized-valid (o .sized)) c c in
+        ⊎-elim (λ h. n (sym (h .0) ∙ e ∙ h .1)) (λ h. n (sym (h .1) ∙ sym e ∙ h .0)) sides
 
     row-b : b < 2 * t
     unfolding layout
-    row-b = omega (arith, spot-bottom, bottom-lt (layout n t shifts) (sized-valid (o .sized)) c)
+    row-b = meets-row (layout n t shifts) (sized-valid (o .sized)) c other-meets
 
-    a≢b : a ≢ b
-    a≢b e = top≢bottom (layout n t shifts) (sized-valid (o .sized)) c c (sym spot-top ∙ e ∙ spot-bottom)
-
-    pub one-rows : Rows sum left code a b
+    pub one-rows : Rows sum left code r b
     unfolding layout
     one-rows =
         let p = o .pictured .picture in
-        let s = spot-single p in
         record {
-          apart = a≢b;
-          sum-top = omega (arith, row-a, p .sum-long);
-          sum-bottom = omega (arith, row-b, p .sum-long);
-          left-top = omega (arith, row-a, p .left-long);
-          left-bottom = omega (arith, row-b, p .left-long);
-          code-top = omega (arith, row-a, p .code-long);
-          code-bottom = omega (arith, row-b, p .code-long);
-          some-top = left-some (o .sized) p (s .member) (inl spot-top);
-          some-bottom = left-some (o .sized) p (s .member) (inr spot-bottom);
+          sum-row = one-long .0;
+          left-row = one-long .1;
+          code-row = one-long .2;
+          sum-other = omega (arith, row-b, p .sum-long);
+          left-other = omega (arith, row-b, p .left-long);
+          code-other = omega (arith, row-b, p .code-long);
+          some-other = left-some (o .sized) p (spot-single p .member) other-meets;
+          apart = r≢b;
         }
 
-    module _ {sum' left' code' : List ℕ} {x : ℕ} (e : x ≡ getD sum r 0) (m : Removes sum left code sum' left' code' a b (getD code r 0) x) where
-      -- the same, said of the place
-      at-place : Removes sum left code sum' left' code' (top (layout n t shifts) c) (bottom (layout n t shifts) c) (codeOf t c) x
+    module _ {sum' left' code' : List ℕ} {x rest : ℕ} (e : x ≡ getD sum r 0)
+        (m : Removes sum left code sum' left' code' r b (getD code r 0) x rest) where
+      two : (g : ℕ → ℕ) {old new : List ℕ} → length old ≡ 2 * layout n t shifts .t → g (getD old r 0) ≡ 0
+          → new ≡ set (set old r 0) b (g (getD (set old r 0) b 0)) → Touched (layout n t shifts) c g old new
       unfolding layout
-      at-place =
-          subst₃ (λ a b k. Removes sum left code sum' left' code' a b k x) spot-top spot-bottom
-          (sym (spot-single (o .pictured .picture) .packed)) m
+      two g l z q =
+          touched-two (layout n t shifts) c g r b r≢b (omega (arith, l, o .row)) (omega (arith, l, row-b))
+          (spot-single (o .pictured .picture) .meet) other-meets both z q
+
+      left-touched : Touched (layout n t shifts) c (λ v. v - 1) left left'
+      left-touched = two (λ v. v - 1) (o .pictured .picture .left-long) (omega (arith, o .left-one)) (m .lefts)
 
       next-of : (E : List ℕ) (u : ℕ → ℕ) → Picture (layout n t shifts) E u sum left code → Next (layout n t shifts) E u sum' left' code' c x
       unfolding layout
@@ -191,47 +216,27 @@ module _ {n t : ℕ} {shifts sum left code : List ℕ} {r : ℕ} (o : One n t sh
           let L = layout n t shifts in
           let s = spot-single p in
           let v : x ≡ syndrome L u r = e ∙ p .sums r (o .row) in
-          let z = at-place in
           record {
             member = s .member;
-            picture = picture-remove L (sized-valid (o .sized)) c p (z .sum₁) sum' (z .left₁) left' (z .code₁) code'
-                x (s .member) (rw v (syndrome-byte L u r (p .byte)))
-                (z .sum-top) (z .sum-bottom) (z .left-top) (z .left-bottom) (z .code-top) (z .code-bottom);
+            picture = picture-less L c x sum' left' code' p (s .member) (rw v (syndrome-byte L u r (p .byte)))
+                (two (λ y. y ⊕ x) (p .sum-long) (rw e (⊕-self (getD sum r 0))) (m .sums))
+                left-touched
+                (subst (λ k. Touched L c (λ y. y ⊕ k) code code') (sym (s .packed)) (two (λ y. y ⊕ getD code r 0) (p .code-long) (⊕-self (getD code r 0)) (m .codes)));
             forces = λ w z h. row-forces L u w s (p .blank) (z r (o .row)) h ∙ sym v;
           }
 
-      left-touched : Touched (layout n t shifts) c (λ v. v - 1) left left'
-      left-touched =
-          touched (layout n t shifts) (sized-valid (o .sized)) c (λ v. v - 1) left (at-place .left₁) left'
-          (o .pictured .picture .left-long) (at-place .left-top) (at-place .left-bottom)
-
-      -- q is the row beside r
-      lowers-at : (q : ℕ) → Meets (layout n t shifts) c q → ((s : ℕ) → s ≢ r → s ≢ q → ¬ (Meets (layout n t shifts) c s)) → Lowers left left' r q
-      lowers-at q h off =
+      pub takes : Takes (layout n t shifts) sum left code sum' left' code' r c x b
+      unfolding layout
+      takes =
           let p = o .pictured .picture in
           let s = spot-single p in
           record {
-            none = omega (arith, left-touched .on r (s .meet), o .left-one);
-            less = omega (arith, left-touched .on q h, left-some (o .sized) p (s .member) h);
-            rest = λ s y z. left-touched .off s (off s y z);
-          }
-
-      pub takes-top : r ≡ a → Takes (layout n t shifts) sum left code sum' left' code' r c x b
-      unfolding layout
-      takes-top i = record {
-        inside = row-b;
-        lowers = lowers-at b (inr spot-bottom) (λ s y z. ⊎-elim (λ k. y (k ∙ sym (i ∙ spot-top))) (λ k. z (k ∙ sym spot-bottom)));
-        next = next-of;
-      }
-
-      pub takes-bottom : r ≢ a → Takes (layout n t shifts) sum left code sum' left' code' r c x a
-      unfolding layout
-      takes-bottom i =
-          let y : r ≡ bottom (layout n t shifts) c =
-          ⊎-elim (λ k. absurd (i (k ∙ sym spot-top))) (λ k. k) (spot-single (o .pictured .picture) .meet) in
-          record {
-            inside = row-a;
-            lowers = lowers-at a (inl spot-top) (λ s w z. ⊎-elim (λ k. z (k ∙ sym spot-top)) (λ k. w (k ∙ sym y)));
+            inside = row-b;
+            lowers = record {
+              none = omega (arith, left-touched .on r (s .meet), o .left-one);
+              less = omega (arith, left-touched .on b other-meets, left-some (o .sized) p (s .member) other-meets);
+              rest = λ q y z. left-touched .off q (λ k. ⊎-elim y z (both q k));
+            };
             next = next-of;
           }
 
@@ -300,17 +305,16 @@ module _ {n t : ℕ} {shifts sum left code queue place value : List ℕ} {head t
     unfolding layout
     step-waits = taken (d .queued) h (k .inside) (k .lowers)
 
-    pub other-long : b < length left'
-    unfolding layout
-    other-long = omega (arith, k .inside, k .next (d .pictured .E) (d .pictured .u) (d .pictured .picture) .picture .left-long)
-
-    pub step-room : getD left' b 0 ≡ 1 → tail < length queue
+    step-room : getD left' b 0 ≡ 1 → tail < length queue
     step-room e = omega (arith, room step-waits e, d .queue-long)
 
-    pub steps : {queue' place' value' : List ℕ} {tail' : ℕ} → Enters left' queue tail b queue' tail' → length queue' ≡ length queue
+    pub rest-room : {rest : ℕ} → rest ≡ getD left' b 0 → rest ≡ 1 → tail < length queue
+    rest-room e one = step-room (sym e ∙ one)
+
+    pub steps : {queue' place' value' : List ℕ} {rest tail' : ℕ} → rest ≡ getD left' b 0 → Enters queue tail b rest queue' tail' → length queue' ≡ length queue
         → place' ≡ set place count c → value' ≡ set value count x
         → Steps n t shifts sum left code queue place value head count sum' left' code' queue' place' value' tail' (count + 1)
-    steps e lq ep ev = record {
+    steps er e lq ep ev = record {
       ready = record {
         sized = d .sized;
         pictured = record {
@@ -318,7 +322,7 @@ module _ {n t : ℕ} {shifts sum left code queue place value : List ℕ} {head t
           u = update (d .pictured .u) c x;
           picture = k .next (d .pictured .E) (d .pictured .u) (d .pictured .picture) .picture;
         };
-        queued = entered step-waits step-room e;
+        queued = entered step-waits step-room er e;
         counted = omega (arith, d .counted);
         queue-long = lq ∙ d .queue-long;
         place-long = ap length ep ∙ length-set place count c ∙ d .place-long;

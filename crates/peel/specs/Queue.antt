@@ -1,17 +1,24 @@
 -- The queue of rows with one erasure left. Rows that entered are below `rows`, none twice, and none has more than one erasure left;
 -- every row with exactly one left stands at or after the head (Queued), or all but one row s that may enter next (Waits).
--- Main results: entered (a row enters or not), room (there is room for it), passed and taken (the head moves on).
+-- Main results: entered (a row enters or not), room (there is room for it), sweep-more and sweep-blank (the scan of all rows), passed and
+-- taken (the head moves on).
 use mathlib.Core.Path.{_≡_, refl, sym, _∙_, ap, subst}
 use mathlib.Core.Logic.{_≢_, by-cases}
+use mathlib.Core.Bool.{true}
 use mathlib.Core.List.{List}
-use Prim.Native.Nat.{ℕ, _+_, _≤_, _<_}
-use native.Mathlib.Decide.{ℕ-discrete}
+use Prim.Native.Nat.{ℕ, _+_, _-_, _≤_, _<_}
+use native.Mathlib.Nat.{le-antisymm}
+use native.Mathlib.Decide.{ℕ-discrete, decLt}
 use native.Mathlib.Omega.{arith}
-use lib.ListN.{length, getD, set}
-use lib.Seq.{getD-set-same, getD-set-other}
+use lib.Dec.{eqb}
+use lib.ListN.{length, getD, set, take, drop, length-set}
+use borrow.Author.Tests.{eq-eqb, ne-eqb}
+use mir.Val.{boolByte}
+use lib.Seq.{getD-set-same, getD-set-other, getD-take, getD-drop}
 use Rattle.math.specs.Members.{upTo, without}
 use Rattle.math.specs.MembersLaws.{∈-upTo, length-upTo, ∈-without, length-without-lt}
 use Rattle.math.specs.Pigeonhole.{injection-length}
+use Rattle.peel.specs.Fill.{allZero, allZero-at}
 
 -- row r stands in the queue between the head and the tail
 abbrev pub Standing : List ℕ → ℕ → ℕ → ℕ → Type 0
@@ -34,10 +41,21 @@ pub record Waits (left queue : List ℕ) (rows head tail s : ℕ) : Type 0 where
   pub inside : s < rows
   pub fresh : (i : ℕ) → i < tail → getD queue i 0 ≡ s → getD left s 0 ≢ 1
 
--- row s enters at the tail if it has exactly one left
-pub record Enters (left queue : List ℕ) (tail s : ℕ) (queue' : List ℕ) (tail' : ℕ) : Type 0 where
-  pub enters : getD left s 0 ≡ 1 → (queue' ≡ set queue tail s) × (tail' ≡ tail + 1)
-  pub stays : getD left s 0 ≢ 1 → (queue' ≡ queue) × (tail' ≡ tail)
+-- row s, which has `rest` left, enters at the tail if that is exactly one; what stands past the tail is free
+pub record Enters (queue : List ℕ) (tail s rest : ℕ) (queue' : List ℕ) (tail' : ℕ) : Type 0 where
+  pub enters : rest ≡ 1 → (queue' ≡ set queue tail s) × (tail' ≡ tail + 1)
+  pub stays : rest ≢ 1 → ((i : ℕ) → i < tail → getD queue' i 0 ≡ getD queue i 0) × (tail' ≡ tail)
+
+-- the number of the test that x is 1: 1 if it holds, else 0
+pub flag-le : (x : ℕ) → boolByte (eqb x 1) ≤ 1
+flag-le x = by-cases (ℕ-discrete x 1) (λ e. rw (eq-eqb x 1 e) (omega arith)) (λ n. rw (ne-eqb x 1 n) (omega arith))
+
+-- a row is stored at the tail, which moves on by that number
+pub stored : (queue : List ℕ) (tail s rest : ℕ) → Enters queue tail s rest (set queue tail s) (tail + boolByte (eqb rest 1))
+stored queue tail s rest = record {
+  enters = λ e. rw (eq-eqb rest 1 e) (refl, refl);
+  stays = λ n. rw (ne-eqb rest 1 n) ((λ i h. getD-set-other queue tail i s 0 (λ e. omega arith)), omega arith);
+}
 
 pub queued-none : (left queue : List ℕ) → Queued left queue 0 0 0
 queued-none left queue = record {
@@ -64,6 +82,16 @@ room {queue} {rows} {tail} {s} q e =
           (λ i h. ∈-without (∈-upTo (q .entries .below i h)) (λ k. q .fresh i h k e)) (q .entries .apart),
     )
 
+-- ---- the rows are scanned from 0 on
+
+-- what sweeping the rows from i up to j requires
+pub record Sweepable (left queue : List ℕ) (i j tail : ℕ) : Type 0 where
+  pub queued : Queued left queue i 0 tail
+  pub order : i ≤ j
+  pub left-long : j ≤ length left
+  pub queue-long : j ≤ length queue
+  pub few : j ≤ 4096
+
 -- the rows below i are scanned, row i is next
 pub seeds : {left queue : List ℕ} {i tail : ℕ} → Queued left queue i 0 tail → Waits left queue (i + 1) 0 tail i
 seeds q = record {
@@ -73,10 +101,6 @@ seeds q = record {
   inside = omega arith;
   fresh = λ k h e. absurd (omega (arith, q .entries .below k h));
 }
-
--- all rows are scanned
-pub seeded : {left queue : List ℕ} {i rows tail : ℕ} → Queued left queue i 0 tail → i ≡ rows → Queued left queue rows 0 tail
-seeded {left} {queue} {tail = tail} q e = subst (λ i. Queued left queue i 0 tail) e q
 
 module _ {left queue : List ℕ} {rows head tail s : ℕ} (q : Waits left queue rows head tail s) (l : tail < length queue) (one : getD left s 0 ≡ 1) where
   last : getD (set queue tail s) tail 0 ≡ s
@@ -111,19 +135,83 @@ module _ {left queue : List ℕ} {rows head tail s : ℕ} (q : Waits left queue 
         (λ n. let w = q .waiting r h n e in (w .0, w .1, omega (arith, w .2), early (w .0) (w .2) ∙ w .3));
   }
 
-pub entered : {left queue : List ℕ} {rows head tail s : ℕ} {queue' : List ℕ} {tail' : ℕ} → Waits left queue rows head tail s
-    → (getD left s 0 ≡ 1 → tail < length queue) → Enters left queue tail s queue' tail' → Queued left queue' rows head tail'
-entered {left} {queue} {rows} {head} {tail} {s} {queue'} {tail'} q l t =
-    by-cases (ℕ-discrete (getD left s 0) 1)
-    (λ one. let e = t .enters one in rw (e .0, e .1) (pushed q (l one) one))
+-- what stands past the tail is free
+beyond : {left queue queue' : List ℕ} {rows head tail : ℕ} → Queued left queue rows head tail
+    → ((i : ℕ) → i < tail → getD queue' i 0 ≡ getD queue i 0) → Queued left queue' rows head tail
+beyond q same = record {
+  order = q .order;
+  entries = record {
+    below = λ i h. rw (same i h) (q .entries .below i h);
+    apart = λ i j h k e. q .entries .apart i j h k (sym (same i h) ∙ e ∙ same j k);
+    low = λ i h. rw (same i h) (q .entries .low i h);
+  };
+  waiting = λ r h e. let w = q .waiting r h e in (w .0, w .1, w .2, same (w .0) (w .2) ∙ w .3);
+}
+
+-- the rows from i up to j are passed over, none of them having exactly one left
+pub skipped : {left queue : List ℕ} {i tail : ℕ} (j : ℕ) → Queued left queue i 0 tail → i ≤ j
+    → ((r : ℕ) → i ≤ r → r < j → getD left r 0 ≢ 1) → Queued left queue j 0 tail
+skipped {left} {i = i} j q l n = record {
+  order = q .order;
+  entries = record { below = λ k h. omega (arith, q .entries .below k h); apart = q .entries .apart; low = q .entries .low };
+  waiting = λ r h e. by-cases (decLt r i) (λ k. q .waiting r k e) (λ k. absurd (n r (omega arith) h e));
+}
+
+pub entered : {left queue : List ℕ} {rows head tail s rest : ℕ} {queue' : List ℕ} {tail' : ℕ} → Waits left queue rows head tail s
+    → (getD left s 0 ≡ 1 → tail < length queue) → rest ≡ getD left s 0 → Enters queue tail s rest queue' tail' → Queued left queue' rows head tail'
+entered {left} {queue} {rows} {head} {tail} {s} {rest} {queue'} {tail'} q l same t =
+    by-cases (ℕ-discrete rest 1)
+    (λ one. let e = t .enters one in let k = sym same ∙ one in rw (e .0, e .1) (pushed q (l k) k))
     (λ n.
     let e = t .stays n in
-    rw (e .0, e .1)
+    rw (e .1)
+    (beyond
     (record {
       order = q .order;
       entries = q .entries;
-      waiting = λ r h k. q .waiting r h (λ m. n (subst (λ r. getD left r 0 ≡ 1) m k)) k;
-    }))
+      waiting = λ r h k. q .waiting r h (λ m. n (same ∙ subst (λ r. getD left r 0 ≡ 1) m k)) k;
+    })
+    (e .0)))
+
+module _ {left queue : List ℕ} {i j tail : ℕ} (w : Sweepable left queue i j tail) where
+  pub sweep-room : i < j → tail < length queue
+  sweep-room h = omega (arith, full (w .queued), w .queue-long)
+
+  pub sweep-more : i < j → Sweepable left (set queue tail i) (i + 1) j (tail + boolByte (eqb (getD left i 0) 1))
+  sweep-more h = record {
+    queued = entered (seeds (w .queued)) (λ _. sweep-room h) refl (stored queue tail i (getD left i 0));
+    order = omega arith;
+    left-long = w .left-long;
+    queue-long = rw (length-set queue tail i) (w .queue-long);
+    few = w .few;
+  }
+
+  pub sweep-end : j ≤ i → Queued left queue j 0 tail
+  sweep-end h = subst (λ i. Queued left queue i 0 tail) (le-antisymm (w .order) h) (w .queued)
+
+  -- rows with no erasure are passed at once
+  pub sweep-blank : allZero (take (j - i) (drop i left)) ≡ true → Queued left queue j 0 tail
+  sweep-blank z = skipped j (w .queued) (w .order) (λ r l h e. omega (arith, none r l h, e))
+    where
+      none : (r : ℕ) → i ≤ r → r < j → getD left r 0 ≡ 0
+      none r l h =
+          let k : r - i < j - i = omega arith in
+          let m : i + (r - i) ≡ r = omega arith in
+          let e : getD (take (j - i) (drop i left)) (r - i) 0 ≡ getD left (i + (r - i)) 0 = rw (getD-take, getD-drop) in
+          ap (λ r. getD left r 0) (sym m) ∙ sym e ∙ allZero-at (take (j - i) (drop i left)) z (r - i)
+
+  -- sweeping the rows up to k first
+  pub sweep-part : {k : ℕ} → i ≤ k → k ≤ j → Sweepable left queue i k tail
+  sweep-part l h = record {
+    queued = w .queued;
+    order = l;
+    left-long = omega (arith, w .left-long);
+    queue-long = omega (arith, w .queue-long);
+    few = omega (arith, w .few);
+  }
+
+  pub sweep-rest : {queue' : List ℕ} {k tail' : ℕ} → k ≤ j → Queued left queue' k 0 tail' → length queue' ≡ length queue → Sweepable left queue' k j tail'
+  sweep-rest h q l = record { queued = q; order = h; left-long = w .left-long; queue-long = omega (arith, w .queue-long); few = w .few }
 
 -- the head's row has not one left: it is passed over
 pub passed : {left queue : List ℕ} {rows head tail : ℕ} → Queued left queue rows head tail → head < tail

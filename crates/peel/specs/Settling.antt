@@ -1,14 +1,14 @@
 -- Settling one erasure: what a row with one erasure left says, and the list of settled places.
 -- Main results: single (its only place, read off the code), row-forces (T1: the row's sum is the symbol of every codeword that agrees),
--- settles-none and settles-more.
+-- touched-two (the tables after), settles-none and settles-more.
 use mathlib.Core.Path.{_≡_, refl, sym, _∙_, ap, subst}
-use mathlib.Core.Logic.{by-cases}
+use mathlib.Core.Logic.{_≢_, _⊎_, ⊎-elim, by-cases}
 use mathlib.Core.List.{List, [], _∷_, List·Memᴰ·eq-of-singleton, Memᴰ·cast}
 use mathlib.Core.List.{List·Memᴰ·head as here}
 use Prim.Native.Nat.{ℕ, _+_, _*_, _/_, _%_, _≤_, _<_}
 use native.Mathlib.Decide.{ℕ-discrete}
 use native.Mathlib.Omega.{arith}
-use lib.ListN.{length, getD, set}
+use lib.ListN.{length, getD, set, length-set}
 use lib.Seq.{getD-set-same, getD-set-other}
 use Rattle.math.specs.Members.{_∈_, without}
 use Rattle.math.specs.MembersLaws.{decIn, ∈-keep, keep-∈, ∈-without, without-∈}
@@ -22,6 +22,7 @@ use Rattle.code.specs.Checks.{update}
 use Rattle.code.specs.Laws.Basics.{place-split, meets-true, true-meets, syndrome-ext}
 use Rattle.code.specs.Laws.Settle.{update-same, update-other, blank-in, blank-out, row-forced}
 use Rattle.tables.specs.Picture.{codeOf, onRow, Picture, Settles}
+use Rattle.tables.specs.PictureLaws.{Touched}
 use Rattle.tables.specs.Codes.{code-section, code-offset}
 
 -- the erasures on a row
@@ -82,6 +83,23 @@ single L ok g {E} {code = code} p {r} h e =
     let o = one-member (onRow L E r) (sym (p .lefts r h) ∙ e) in
     let s = single-of L ok g p h (o .0) (o .1) in
     subst (λ c. Single L E r (getD code r 0) c) (sym (s .number)) s
+
+-- a table that is stored to at a and b, the two rows of c; at a the store gives 0
+pub touched-two : (L : Layout) (c : ℕ) (g : ℕ → ℕ) {old new : List ℕ} (a b : ℕ) → a ≢ b → a < length old → b < length old
+    → Meets L c a → Meets L c b → ((s : ℕ) → Meets L c s → (s ≡ a) ⊎ (s ≡ b)) → g (getD old a 0) ≡ 0
+    → new ≡ set (set old a 0) b (g (getD (set old a 0) b 0)) → Touched L c g old new
+touched-two L c g {old} a b n la lb ma mb both z q =
+    let v = g (getD (set old a 0) b 0) in
+    rw q
+    (record {
+      long = length-set (set old a 0) b v ∙ length-set old a 0;
+      on = λ r m. ⊎-elim
+          (λ e. rw e (getD-set-other (set old a 0) b a v 0 n ∙ getD-set-same old a 0 0 la ∙ sym z))
+          (λ e. rw e (getD-set-same (set old a 0) b v 0 (rw (length-set old a 0) lb) ∙ ap g (getD-set-other old a b 0 0 (λ k. n (sym k)))))
+          (both r m);
+      off = λ r k. getD-set-other (set old a 0) b r v 0 (λ e. k (subst (Meets L c) (sym e) mb))
+          ∙ getD-set-other old a r 0 0 (λ e. k (subst (Meets L c) (sym e) ma));
+    })
 
 -- T1: the sum of a row with one erasure left is the symbol of every codeword that agrees
 pub row-forces : (L : Layout) {E : List ℕ} (u w : ℕ → ℕ) {r k c : ℕ} → Single L E r k c → ((d : ℕ) → d ∈ E → u d ≡ 0) → syndrome L w r ≡ 0

@@ -1,6 +1,8 @@
 // Putting settled values into a block, and the test that nothing is left.
 ghost use mathlib.Core.Path.{_≡_};
-ghost use Rattle.peel.specs.Fill.{filled, Fillable, allZero, cleanOf};
+ghost use Rattle.peel.specs.Fill.{filled, Fillable, cleanOf};
+use crate::zeros::zero_bytes;
+use crate::zeros::zero_words;
 
 // The first k values are put at the first k places.
 pub fn fill(block: &mut [u8], place: &[u16], value: &[u8], k: usize)
@@ -13,30 +15,6 @@ pub fn fill(block: &mut [u8], place: &[u16], value: &[u8], k: usize)
         block[c] = value[i];
         i += 1;
     }
-}
-
-fn zero_bytes(l: &[u8]) -> bool
-    ensures { λ r. ⌜ r ≡ allZero (now (l .entry)) ⌝ }
-{
-    let mut any: u8 = 0;
-    let mut i = 0;
-    while i < l.len() {
-        any = any | l[i];
-        i += 1;
-    }
-    any == 0
-}
-
-fn zero_words(l: &[u16]) -> bool
-    ensures { λ r. ⌜ r ≡ allZero (now (l .entry)) ⌝ }
-{
-    let mut any: u16 = 0;
-    let mut i = 0;
-    while i < l.len() {
-        any = any | l[i];
-        i += 1;
-    }
-    any == 0
 }
 
 // No row has a sum, and none an erasure left.

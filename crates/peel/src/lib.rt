@@ -8,6 +8,7 @@ ghost use Rattle.peel.specs.Peels.{Ready, Steps, Peelable, Peels};
 pub mod fill;
 mod queue;
 mod settle;
+mod zeros;
 
 use crate::queue::enter;
 use crate::queue::seed;
@@ -33,6 +34,7 @@ fn step(
     value: &mut [u8],
     head: usize,
     ends: Ends,
+    chains: bool,
 ) -> Ends
     requires { ⌜ Ready n t (now shifts) (now sum) (now left) (now code) (now queue) (now place) (now value) head (ends .tail) (ends .count) ⌝ }
     requires { ⌜ head < ends .tail ⌝ }
@@ -54,10 +56,9 @@ fn step(
         &mut code[..],
         Row(row),
     );
-    let other = s.other;
+    let longer = enter(&mut queue[..], tail, s.other, s.rest, chains);
     place[count] = s.place.0;
     value[count] = s.value;
-    let longer = enter(&left[..], &mut queue[..], tail, other);
     Ends {
         tail: longer,
         count: count + 1,
@@ -80,6 +81,8 @@ pub fn peel(
     ensures { λ r. ⌜ Peels (layout n t (now (shifts .entry))) (now (sum .entry)) (now (left .entry)) (now (code .entry)) (now (sum .exit)) (now (left .exit)) (now (code .exit)) (now (place .exit)) (now (value .exit)) r ⌝ }
 {
     let mut tail = seed(t, &left[..], &mut queue[..]);
+    // Few rows to start from: the erasures lie in chains.
+    let chains = tail < t / 8;
     let mut count = 0;
     let mut head = 0;
     while head < tail {
@@ -95,6 +98,7 @@ pub fn peel(
             &mut value[..],
             head,
             Ends { tail, count },
+            chains,
         );
         tail = ends.tail;
         count = ends.count;

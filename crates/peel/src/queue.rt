@@ -1,22 +1,57 @@
 // The queue of rows with one erasure left.
 ghost use mathlib.Core.Path.{_≡_};
-ghost use Prim.Native.Nat.{_*_, _<_, _≤_};
-ghost use lib.ListN.{length, getD};
-ghost use Rattle.peel.specs.Queue.{Enters, Queued};
+ghost use Prim.Native.Nat.{_+_, _*_, _<_, _≤_};
+ghost use lib.ListN.{length};
+ghost use Rattle.peel.specs.Queue.{Enters, Queued, Sweepable};
+use crate::zeros::zero_words;
 use plan::Row;
 
-// A row enters at the tail if it has exactly one left; gives the new tail.
-pub fn enter(left: &[u16], queue: &mut [u16], tail: usize, row: Row) -> usize
-    requires { ⌜ row .0 < length (now left) ⌝ }
-    requires { ⌜ (getD (now left) (row .0) 0 ≡ 1 → tail < length (now queue)) ⌝ }
-    ensures { λ r. ⌜ Enters (now (left .entry)) (now (queue .entry)) tail (row .0) (now (queue .exit)) r ⌝ }
+// A row enters at the tail if the number that it has left is exactly one; gives the new tail. In chains the next row nearly always enters, and a
+// branch lets the processor run ahead; elsewhere the branch would be hard to foresee, and the row is stored in any case.
+pub fn enter(queue: &mut [u16], tail: usize, row: Row, rest: u16, chains: bool) -> usize
+    requires { ⌜ (rest ≡ 1 → tail < length (now queue)) ⌝ }
+    ensures { λ r. ⌜ Enters (now (queue .entry)) tail (row .0) rest (now (queue .exit)) r ⌝ }
 {
-    let r = row.0 as usize;
-    if left[r] != 1 {
+    if chains {
+        if rest != 1 {
+            return tail;
+        }
+        queue[tail] = row.0;
+        return tail + 1;
+    }
+    if queue.len() <= tail {
         return tail;
     }
     queue[tail] = row.0;
-    tail + 1
+    tail + (rest == 1) as usize
+}
+
+// The rows from `from` up to `to` enter if they have exactly one left. Each is stored at the tail, and the tail moves on if it enters:
+// no branch, since which rows enter is hard to foresee.
+fn sweep(left: &[u16], queue: &mut [u16], from: usize, to: usize, tail: usize) -> usize
+    requires { ⌜ Sweepable (now left) (now queue) from to tail ⌝ }
+    ensures { λ r. ⌜ Queued (now (left .entry)) (now (queue .exit)) to 0 r ⌝ }
+{
+    let mut end = tail;
+    let mut r = from;
+    while r < to {
+        queue[end] = r as u16;
+        end += (left[r] == 1) as usize;
+        r += 1;
+    }
+    end
+}
+
+// The same of sixteen rows, passed at once if they have no erasure.
+fn sweep_sixteen(left: &[u16], queue: &mut [u16], from: usize, tail: usize) -> usize
+    requires { ⌜ Sweepable (now left) (now queue) from (from + 16) tail ⌝ }
+    ensures { λ r. ⌜ Queued (now (left .entry)) (now (queue .exit)) (from + 16) 0 r ⌝ }
+{
+    let to = from + 16;
+    if zero_words(&left[from..to]) {
+        return tail;
+    }
+    sweep(left, &mut queue[..], from, to, tail)
 }
 
 // Every row with exactly one left enters, in rising order; gives the tail.
@@ -27,9 +62,9 @@ pub fn seed(t: usize, left: &[u16], queue: &mut [u16]) -> usize
     let rows = 2 * t;
     let mut tail = 0;
     let mut r = 0;
-    while r < rows {
-        tail = enter(left, &mut queue[..], tail, Row(r as u16));
-        r += 1;
+    while r + 16 <= rows {
+        tail = sweep_sixteen(left, &mut queue[..], r, tail);
+        r += 16;
     }
-    tail
+    sweep(left, &mut queue[..], r, rows, tail)
 }

@@ -6,11 +6,11 @@ use Rattle.peel.proofs.peel.Statement.{statement}
 use Rattle.peel.proofs.peel.Tie as tie
 
 abbrev Inv-loop : tie.InvT-loop
-Inv-loop n t shifts sum₀ left₀ code₀ queue₀ place₀ value₀ tail₀ count₀ head₀ sum left code queue place value tail count head =
+Inv-loop n t shifts sum₀ left₀ code₀ queue₀ place₀ value₀ tail₀ chains count₀ head₀ sum left code queue place value tail count head =
     Peeling n t shifts sum₀ left₀ code₀ sum left code queue place value head tail count
 
 abbrev μ-loop : tie.MeasureT-loop
-μ-loop n t shifts sum₀ left₀ code₀ queue₀ place₀ value₀ tail₀ count₀ head₀ sum left code queue place value tail count head = 2 * t - head
+μ-loop n t shifts sum₀ left₀ code₀ queue₀ place₀ value₀ tail₀ chains count₀ head₀ sum left code queue place value tail count head = 2 * t - head
 
 seed-requires : tie.Need-seed-requires Inv-loop μ-loop
 seed-requires c κs = peelable-seed (c .before .before .before .before .before .before .before .before .before .pre)

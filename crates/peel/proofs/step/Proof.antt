@@ -2,7 +2,7 @@
 use lib.ListN.{length-set}
 use mathlib.Core.Path.{refl}
 use native.Mathlib.Omega.{arith}
-use Rattle.peel.specs.Peels.{head-row, head-long, head-left, head-one, steps-over, count-lt, count-long, other-long, step-room, steps}
+use Rattle.peel.specs.Peels.{head-long, head-left, head-one, steps-over, count-lt, count-long, rest-room, steps}
 use Rattle.peel.proofs.step.Statement.{statement}
 use Rattle.peel.proofs.step.Tie as tie
 
@@ -27,33 +27,32 @@ returns c = steps-over (c .before .before .before .before .before .before .befor
 settle-requires : tie.Need-settle-requires
 settle-requires c κs = head-one (c .before .before .before .before .before .before .before .before .before .before .before .before .before .pre .0) (c .before .before .before .before .before .before .before .before .before .before .before .before .before .pre .1) (c .before .before .before .if1 .left)
 
+enter-requires : tie.Need-enter-requires
+enter-requires c κs = rest-room (c .before .before .before .before .before .before .before .before .before .before .before .before .before .before .before .before .before .before .before .before .before .pre .0) (c .before .before .before .before .before .before .before .before .before .before .before .before .before .before .before .before .before .before .before .before .before .pre .1) (c .before .before .before .before .before .before .before .settle .ensures .0) (c .before .before .before .before .before .before .before .settle .ensures .1)
+
 mul-place : tie.Need-mul-place
-mul-place c = omega (arith, count-lt (c .before .before .before .before .before .before .before .before .before .before .before .before .before .before .before .before .before .before .before .before .before .pre .0) (c .before .before .before .before .before .before .before .before .before .before .before .before .before .before .before .before .before .before .before .before .before .pre .1), c .before .before .before .before .before .before .before .before .before .before .before .before .before .before .before .before .before .before .before .before .before .pre .0 .sized .t-max)
+mul-place c = omega (arith, count-lt (c .before .before .before .before .before .before .before .before .before .before .before .before .before .before .before .before .before .before .before .before .before .before .before .before .pre .0) (c .before .before .before .before .before .before .before .before .before .before .before .before .before .before .before .before .before .before .before .before .before .before .before .before .pre .1), c .before .before .before .before .before .before .before .before .before .before .before .before .before .before .before .before .before .before .before .before .before .before .before .before .pre .0 .sized .t-max)
 
 slice-write-place : tie.Need-slice-write-place
-slice-write-place c = count-long (c .before .before .before .before .before .before .before .before .before .before .before .before .before .before .before .before .before .before .before .before .before .pre .0) (c .before .before .before .before .before .before .before .before .before .before .before .before .before .before .before .before .before .before .before .before .before .pre .1) .0
+slice-write-place c = count-long (c .before .before .before .before .before .before .before .before .before .before .before .before .before .before .before .before .before .before .before .before .before .before .before .before .pre .0) (c .before .before .before .before .before .before .before .before .before .before .before .before .before .before .before .before .before .before .before .before .before .before .before .before .pre .1) .0
 
 slice-write-value : tie.Need-slice-write-value
-slice-write-value c = count-long (c .before .before .before .before .before .before .before .before .before .before .before .before .before .before .before .before .before .before .before .before .before .pre .0) (c .before .before .before .before .before .before .before .before .before .before .before .before .before .before .before .before .before .before .before .before .before .pre .1) .1
-
-enter-requires : tie.Need-enter-requires
-enter-requires c κs =
-    (other-long (c .before .before .before .before .before .before .before .before .before .before .before .before .before .before .before .before .before .before .before .before .before .before .before .pre .0) (c .before .before .before .before .before .before .before .before .before .before .before .before .before .before .before .before .before .before .before .before .before .before .before .pre .1) (c .before .before .before .before .before .before .before .before .before .settle .ensures), step-room (c .before .before .before .before .before .before .before .before .before .before .before .before .before .before .before .before .before .before .before .before .before .before .before .pre .0) (c .before .before .before .before .before .before .before .before .before .before .before .before .before .before .before .before .before .before .before .before .before .before .before .pre .1) (c .before .before .before .before .before .before .before .before .before .settle .ensures))
+slice-write-value c = count-long (c .before .before .before .before .before .before .before .before .before .before .before .before .before .before .before .before .before .before .before .before .before .before .before .before .pre .0) (c .before .before .before .before .before .before .before .before .before .before .before .before .before .before .before .before .before .before .before .before .before .before .before .before .pre .1) .1
 
 add-t19 : tie.Need-add-t19
-add-t19 c = omega (arith, count-lt (c .before .before .before .before .before .before .before .before .before .before .before .before .before .before .before .before .before .before .before .before .before .before .before .before .before .before .pre .0) (c .before .before .before .before .before .before .before .before .before .before .before .before .before .before .before .before .before .before .before .before .before .before .before .before .before .before .pre .1), c .before .before .before .before .before .before .before .before .before .before .before .before .before .before .before .before .before .before .before .before .before .before .before .before .before .before .pre .0 .sized .t-max)
+add-t19 c = omega (arith, count-lt (c .before .before .before .before .before .before .before .before .before .before .before .before .before .before .before .before .before .before .before .before .before .before .before .before .pre .0) (c .before .before .before .before .before .before .before .before .before .before .before .before .before .before .before .before .before .before .before .before .before .before .before .before .pre .1), c .before .before .before .before .before .before .before .before .before .before .before .before .before .before .before .before .before .before .before .before .before .before .before .before .pre .0 .sized .t-max)
 
 same-length : tie.Need-same-length
-same-length c = c .before .before .before .before .before .before .before .before .before .before .before .before .settle .kept .1 .1 .1 .0
+same-length c = c .before .before .before .before .before .before .before .before .before .before .settle .kept .1 .1 .1 .0
 
 same-length-2 : tie.Need-same-length-2
-same-length-2 c = c .before .before .before .before .before .before .before .before .before .before .before .before .settle .kept .1 .1 .1 .1 .0
+same-length-2 c = c .before .before .before .before .before .before .before .before .before .before .settle .kept .1 .1 .1 .1 .0
 
 same-length-3 : tie.Need-same-length-3
-same-length-3 c = c .before .before .before .before .before .before .before .before .before .before .before .before .settle .kept .1 .1 .1 .1 .1 .0
+same-length-3 c = c .before .before .before .before .before .before .before .before .before .before .settle .kept .1 .1 .1 .1 .1 .0
 
 same-length-4 : tie.Need-same-length-4
-same-length-4 c = c .before .before .enter .kept .1 .0
+same-length-4 c = c .before .before .enter .kept .0
 
 same-length-5 : tie.Need-same-length-5
 same-length-5 c = simp length-set
@@ -62,8 +61,7 @@ same-length-6 : tie.Need-same-length-6
 same-length-6 c = simp length-set
 
 returns-2 : tie.Need-returns-2
-returns-2 c =
-    steps (c .before .before .before .before .before .before .before .before .before .before .before .before .before .before .before .before .before .before .before .before .before .before .before .before .before .before .pre .0) (c .before .before .before .before .before .before .before .before .before .before .before .before .before .before .before .before .before .before .before .before .before .before .before .before .before .before .pre .1) (c .before .before .before .before .before .before .before .before .before .before .before .before .settle .ensures) (c .before .before .enter .ensures) (c .before .before .enter .kept .1 .0) refl refl
+returns-2 c = steps (c .before .before .before .before .before .before .before .before .before .before .before .before .before .before .before .before .before .before .before .before .before .before .before .before .pre .0) (c .before .before .before .before .before .before .before .before .before .before .before .before .before .before .before .before .before .before .before .before .before .before .before .before .pre .1) (c .before .before .before .before .before .before .before .before .before .before .settle .ensures .0) (c .before .before .before .before .before .before .before .before .before .before .settle .ensures .1) (c .before .before .enter .ensures) (c .before .before .enter .kept .0) refl refl
 
 pub step-spec : {M : Type 1} → statement M
-step-spec = tie.close (tie.spec mul-row slice-read-row cast-r mul-if1 slice-read-if1 returns settle-requires mul-place slice-write-place slice-write-value enter-requires add-t19 same-length same-length-2 same-length-3 same-length-4 same-length-5 same-length-6 returns-2)
+step-spec = tie.close (tie.spec mul-row slice-read-row cast-r mul-if1 slice-read-if1 returns settle-requires enter-requires mul-place slice-write-place slice-write-value add-t19 same-length same-length-2 same-length-3 same-length-4 same-length-5 same-length-6 returns-2)

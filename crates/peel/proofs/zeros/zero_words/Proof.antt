@@ -1,11 +1,11 @@
--- `fill::zero_bytes` meets its contract: `any` is the or of the bytes passed. Assumes nothing.
+-- `zeros::zero_words` meets its contract: `any` is the or of the numbers passed. Assumes nothing.
 use borrow.Author.Needs.{needs}
 use lib.ListN.{length}
 use native.Mathlib.Omega.{arith}
 use Prim.Native.Nat.{_-_, _≤_}
 use Rattle.peel.specs.Fill.{Gathers, gathers-none, gathers-more, gathers-all}
-use Rattle.peel.proofs.fill.zero_bytes.Statement.{statement}
-use Rattle.peel.proofs.fill.zero_bytes.Tie as tie
+use Rattle.peel.proofs.zeros.zero_words.Statement.{statement}
+use Rattle.peel.proofs.zeros.zero_words.Tie as tie
 
 abbrev Inv-loop : tie.InvT-loop
 Inv-loop l any₀ i₀ any i = (i ≤ length l) × Gathers l i any
@@ -15,6 +15,9 @@ abbrev μ-loop : tie.MeasureT-loop
 
 loop-holds : tie.Need-loop-holds Inv-loop μ-loop
 loop-holds c = (search needs, gathers-none _)
+
+mul-any : tie.Need-mul-any Inv-loop μ-loop
+mul-any c = omega arith
 
 shared-slice-read-any : tie.Need-shared-slice-read-any Inv-loop μ-loop
 shared-slice-read-any c = omega arith
@@ -31,5 +34,5 @@ loop-again c = (omega arith, gathers-more (c .before .before .loop .inv .1))
 returns : tie.Need-returns Inv-loop μ-loop
 returns c = gathers-all (c .before .loop .inv .1) (c .loop-test .left)
 
-pub zero-bytes-spec : {M : Type 1} → statement M
-zero-bytes-spec = tie.close (tie.spec Inv-loop μ-loop loop-holds shared-slice-read-any add-i loop-less loop-again returns)
+pub zero-words-spec : {M : Type 1} → statement M
+zero-words-spec = tie.close (tie.spec Inv-loop μ-loop loop-holds mul-any shared-slice-read-any add-i loop-less loop-again returns)
