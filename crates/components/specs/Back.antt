@@ -1,4 +1,4 @@
--- A walk over the places that goes back: one place, or several. Main results: stands-back, goes-back.
+-- A walk over the places that goes back by some places. Main results: goes-start, goes-more, goes-end.
 use mathlib.Core.Path.{_≡_, refl, sym, _∙_, ap, subst}
 use mathlib.Core.Logic.{by-cases}
 use Prim.Native.Nat.{ℕ, zero, suc, _+_, _-_, _*_, _≤_, _<_}
@@ -16,31 +16,26 @@ pub section-back : (t c j k : ℕ) → c ≡ j * t + k → k < c → c ≡ (j - 
 section-back t c zero k e h = let z : 0 * t ≡ 0 = zero-mul t in absurd (omega arith)
 section-back t c (suc j) k e h = let q : suc j - 1 ≡ j = omega arith in rw q (omega (arith, suc-mul j t))
 
-pub stands-back : {t c j : ℕ} → Stands t c j 0 → 0 < c → Stands t (c - 1) (j - 1) (t - 1)
-stands-back {t} {c} {j} s h =
-    let e : c ≡ (j - 1) * t + (0 + t) = section-back t c j 0 (s .whole) h in
-    record { whole = omega arith; within = omega arith }
-
--- on the way back: the place is still j × t + k, and k is below t + 8
-pub record Goes (t c j k : ℕ) : Type 0 where
+-- on the way back by m places: the place is still j × t + k, and k is below t + m
+pub record Goes (t c m j k : ℕ) : Type 0 where
   pub whole : c ≡ j * t + k
-  pub near : k < t + 8
-  pub far : 8 ≤ c
+  pub near : k < t + m
+  pub far : m ≤ c
   pub some : 1 ≤ t
 
-pub goes-start : {t c j k : ℕ} → Stands t c j k → 8 ≤ c → Goes t c j k
-goes-start s h = record { whole = s .whole; near = omega (arith, s .within); far = h; some = omega (arith, s .within) }
+pub goes-start : {t c j k : ℕ} (m : ℕ) → Stands t c j k → m ≤ c → Goes t c m j k
+goes-start m s h = record { whole = s .whole; near = omega (arith, s .within); far = h; some = omega (arith, s .within) }
 
-pub goes-pos : {t c j k : ℕ} → Goes t c j k → k < 8 → 1 ≤ j
-goes-pos {t} {c} {j} {k} g h = section-pos t c j k (g .whole) (omega (arith, g .far))
+pub goes-pos : {t c m j k : ℕ} → Goes t c m j k → k < m → 1 ≤ j
+goes-pos {t} {c} {m} {j} {k} g h = section-pos t c j k (g .whole) (omega (arith, g .far))
 
-pub goes-more : {t c j k : ℕ} → Goes t c j k → k < 8 → Goes t c (j - 1) (k + t)
-goes-more {t} {c} {j} {k} g h = record {
+pub goes-more : {t c m j k : ℕ} → Goes t c m j k → k < m → Goes t c m (j - 1) (k + t)
+goes-more {t} {c} {m} {j} {k} g h = record {
   whole = section-back t c j k (g .whole) (omega (arith, g .far));
   near = omega arith;
   far = g .far;
   some = g .some;
 }
 
-pub goes-end : {t c j k : ℕ} → Goes t c j k → 8 ≤ k → Stands t (c - 8) j (k - 8)
+pub goes-end : {t c m j k : ℕ} → Goes t c m j k → m ≤ k → Stands t (c - m) j (k - m)
 goes-end g h = record { whole = omega (arith, g .whole); within = omega (arith, g .near) }

@@ -1,23 +1,24 @@
 -- The walk over the marks as the code makes it: the place with its section and offset, and the bits of the marks.
--- Main results: joinable, walking-byte, walking-bit, walking-join (the steps), walking-start, walking-end.
+-- Main results: joinable, walking-gap, walking-bit, walking-join (the steps), walking-start, walking-passed.
 use mathlib.Core.Path.{_≡_, refl, sym, _∙_, ap, subst}
 use mathlib.Core.Logic.{_≢_}
 use mathlib.Core.Bool.{Bool}
 use mathlib.Core.List.{List, []}
 use Prim.Native.Nat.{ℕ, _+_, _-_, _*_, _/_, _%_, _≤_, _<_}
-use native.Mathlib.Nat.{mod-lt, div-lt-iff-lt-mul, zero-div}
+use native.Mathlib.Nat.{mod-lt, div-lt-iff-lt-mul}
 use native.Mathlib.Omega.{arith}
 use lib.ListN.{length, getD}
 use Rattle.math.specs.Members.{_∈_, upTo}
 use Rattle.math.specs.MembersLaws.{∈-upTo}
 use Rattle.plan.specs.Layout.{Layout, layout, top, bottom, bottomRow}
-use Rattle.code.specs.Codewords.{bitOf}
 use Rattle.code.specs.Marks.{mark, erasures}
 use Rattle.code.specs.Laws.Basics.{places-∈, ∈-places}
 use Rattle.code.specs.Laws.MarksLaws.{in-erasures, rising-erasures, mark-bit}
 use Rattle.tables.specs.Picture.{Sized}
+use Rattle.tables.specs.Words.{Clear}
 use Rattle.tables.specs.Spots.{Stands, stands-inside, stands-top, stands-bottom}
 use Rattle.components.specs.Parents.{Falls, Unites, Settled, Own}
+use Rattle.components.specs.Gaps.{Gap}
 use Rattle.components.specs.Walks.{Joins, Walks, Labelled, closing, walks-none, walks-skip, walks-join, walks-labelled, joins-none}
 use Rattle.plan.specs.declared.Place.{Place}
 use Rattle.components.specs.declared.walk.Closing.{Closing}
@@ -85,11 +86,6 @@ module _ {n t : ℕ} {shifts : List ℕ} (s : Sized n t shifts) (marks : List �
   erasure-layout {d} h e = in-erasures (layout n t shifts) marks d .1
       (∈-places (layout n t shifts) h (∈-upTo (div-lt-iff-lt-mul {y = n} (s .t-min) .1 h)), e)
 
--- no mark in a byte that is 0
-zero-byte : (marks : List ℕ) (c d : ℕ) → getD marks (c / 8 - 1) 0 ≡ 0 → d / 8 ≡ c / 8 - 1 → mark marks d ≡ 0
-unfolding mark bitOf
-zero-byte marks c d z e = rw (e, z, zero-div)
-
 module _ {n t : ℕ} {shifts marks p : List ℕ} {c j k d j′ k′ : ℕ} {a : Closing} (w : Walking n t shifts marks p c j k a) (s : Stands t d j′ k′) where
   walking-skip : d ≤ c → ((e : ℕ) → d ≤ e → e < c → mark marks e ≡ 0) → Walking n t shifts marks p d j′ k′ a
   walking-skip l h = record {
@@ -100,9 +96,9 @@ module _ {n t : ℕ} {shifts marks p : List ℕ} {c j k d j′ k′ : ℕ} {a : 
     walks = walks-skip a (w .walks) l (λ e m f g. omega (arith, h e f g, layout-erasure (w .sized) marks m .1));
   }
 
-  -- eight places back over a byte that is 0
-  pub walking-byte : d + 8 ≡ c → c % 8 ≡ 0 → getD marks (c / 8 - 1) 0 ≡ 0 → Walking n t shifts marks p d j′ k′ a
-  walking-byte e r z = walking-skip (omega arith) (λ i f g. zero-byte marks c i z (omega arith))
+  -- back over a gap
+  pub walking-gap : {m : ℕ} → d + m ≡ c → Gap marks c m → Walking n t shifts marks p d j′ k′ a
+  walking-gap e g = walking-skip (omega arith) (λ i f l. g .none i (omega arith) l)
 
   -- one place back, which is not marked
   pub walking-bit : d + 1 ≡ c → mark marks d ≡ 0 → Walking n t shifts marks p d j′ k′ a
@@ -150,13 +146,13 @@ pub record Passed (n t : ℕ) (shifts marks p : List ℕ) (a : Closing) : Type 0
   pub falls : Falls p
   pub walks : Walks (layout n t shifts) (erasures (layout n t shifts) marks) p 0 a
 
-pub walking-passed : {n t : ℕ} {shifts marks p : List ℕ} {c j k : ℕ} {a : Closing} → Walking n t shifts marks p c j k a → c ≤ 0 → Passed n t shifts marks p a
-walking-passed {n} {t} {shifts} {marks} {p} {c} {a} w h =
-    let e : c ≡ 0 = omega arith in
-    record {
-      falls = w .walks .joins .falls;
-      walks = subst (λ i. Walks (layout n t shifts) (erasures (layout n t shifts) marks) p i a) e (w .walks);
-    }
+-- no place below it is marked
+pub walking-passed : {n t : ℕ} {shifts marks p : List ℕ} {c j k r : ℕ} {a : Closing} → Walking n t shifts marks p c j k a → Clear marks 0 r → c ≤ 8 * r
+    → Passed n t shifts marks p a
+walking-passed {n} {t} {shifts} {marks} {p} {c} {a} w z h = record {
+  falls = w .walks .joins .falls;
+  walks = walks-skip a (w .walks) (omega arith) (λ e m f g. omega (arith, z .none e (omega arith) (omega arith), layout-erasure (w .sized) marks m .1));
+}
 
 -- the parents settled: they are the labels
 pub passed-labelled : {n t : ℕ} {shifts marks p q : List ℕ} {a : Closing} → Passed n t shifts marks p a → Settled p q (length p)

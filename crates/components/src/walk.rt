@@ -7,6 +7,7 @@ ghost use Rattle.code.specs.Marks.{mark, erasures};
 ghost use Rattle.tables.specs.Picture.{Sized};
 ghost use Rattle.tables.specs.Spots.{Stands};
 ghost use Rattle.components.specs.Walks.{closing, Labelled};
+ghost use Rattle.components.specs.Gaps.{Gap};
 ghost use Rattle.components.specs.Walking.{Walking, Joinable, UnitesAt, Passed};
 use crate::parents::own;
 use crate::parents::settle;
@@ -15,6 +16,8 @@ use plan::Place;
 use tables::rows::bottom;
 use tables::rows::top;
 use tables::walk::Spot;
+use tables::words::pass_zeros;
+use tables::words::word_from;
 
 // The highest place that closes a cycle of marked places.
 pub enum Closing {
@@ -28,42 +31,51 @@ pub struct Walk {
     pub closing: Closing,
 }
 
-// One place back.
-fn back(spot: Spot, t: usize) -> Spot
-    requires { ⌜ Stands t (spot .place .0) (spot .section) (spot .offset) × (0 < spot .place .0) ⌝ }
-    ensures { λ r. ⌜ Stands t (r .place .0) (r .section) (r .offset) × (r .place .0 + 1 ≡ spot .place .0) ⌝ }
-{
-    let place = Place(spot.place.0 - 1);
-    if 0 < spot.offset {
-        return Spot {
-            place,
-            section: spot.section,
-            offset: spot.offset - 1,
-        };
-    }
-    Spot {
-        place,
-        section: spot.section - 1,
-        offset: t - 1,
-    }
-}
-
-// Eight places back.
-fn back8(spot: Spot, t: usize) -> Spot
-    requires { ⌜ Stands t (spot .place .0) (spot .section) (spot .offset) × (8 ≤ spot .place .0) × (t ≤ 2048) ⌝ }
-    ensures { λ r. ⌜ Stands t (r .place .0) (r .section) (r .offset) × (r .place .0 + 8 ≡ spot .place .0) ⌝ }
+// m places back.
+fn back(spot: Spot, t: usize, m: usize) -> Spot
+    requires { ⌜ Stands t (spot .place .0) (spot .section) (spot .offset) × (m ≤ spot .place .0) × (m ≤ 64) × (t ≤ 2048) ⌝ }
+    ensures { λ r. ⌜ Stands t (r .place .0) (r .section) (r .offset) × (r .place .0 + m ≡ spot .place .0) ⌝ }
 {
     let mut section = spot.section;
     let mut offset = spot.offset;
-    while offset < 8 {
+    while offset < m {
         offset += t;
         section -= 1;
     }
     Spot {
-        place: Place(spot.place.0 - 8),
+        place: Place(spot.place.0 - m as u16),
         section,
-        offset: offset - 8,
+        offset: offset - m,
     }
+}
+
+// The byte where a word of marks begins that holds place c - 1, near its end if it can.
+fn byte_below(c: usize) -> usize
+    requires { ⌜ (0 < c) × (c ≤ 32768) ⌝ }
+    ensures { λ r. ⌜ (8 * r < c) × (c ≤ 8 * r + 64) ⌝ }
+{
+    if c <= 64 {
+        return 0;
+    }
+    (c + 7) / 8 - 8
+}
+
+// The number of places next below c that are not marked, as far as a word of marks tells.
+fn gap(marks: &[u8], c: usize) -> usize
+    requires { ⌜ (c ≤ 8 * length (now marks)) × (length (now marks) ≤ 4096) ⌝ }
+    ensures { λ r. ⌜ Gap (now (marks .entry)) c r ⌝ }
+{
+    if c == 0 {
+        return 0;
+    }
+    let i = byte_below(c);
+    let known = c - 8 * i;
+    let word = word_from(marks, i, Place(0)) << (64 - known);
+    let zeros = u64::leading_zeros(word) as usize;
+    if known < zeros {
+        return known;
+    }
+    zeros
 }
 
 // The bit of place c.
@@ -101,27 +113,17 @@ fn join(n: usize, t: usize, shifts: &[u16], parent: &mut [u16], spot: Spot) -> b
     unite(parent, top(spot), bottom(spot, t, shifts[section] as usize))
 }
 
-// One step of the walk: a byte of marks that is 0, or one place.
+// One step of the walk: a place that is marked, or one that is not and those next below it that are not.
 fn step(n: usize, t: usize, shifts: &[u16], marks: &[u8], parent: &mut [u16], walk: Walk) -> Walk
     requires { ⌜ Walking n t (now shifts) (now marks) (now parent) (walk .spot .place .0) (walk .spot .section) (walk .spot .offset) (walk .closing) × (0 < walk .spot .place .0) ⌝ }
     ensures { λ r. ⌜ Walking n t (now (shifts .entry)) (now (marks .entry)) (now (parent .exit)) (r .spot .place .0) (r .spot .section) (r .spot .offset) (r .closing) × (r .spot .place .0 < walk .spot .place .0) ⌝ }
 {
-    let spot = walk.spot;
     let k = walk.closing;
-    let c = spot.place.0 as usize;
-    if c % 8 == 0 {
-        let i = c / 8 - 1;
-        if marks[i] == 0 {
-            return Walk {
-                spot: back8(spot, t),
-                closing: k,
-            };
-        }
-    }
-    let at = back(spot, t);
+    let at = back(walk.spot, t, 1);
     if bit(marks, at.place) == 0 {
+        let m = gap(marks, at.place.0 as usize);
         return Walk {
-            spot: at,
+            spot: back(at, t, m),
             closing: k,
         };
     }
@@ -132,11 +134,12 @@ fn step(n: usize, t: usize, shifts: &[u16], marks: &[u8], parent: &mut [u16], wa
     }
 }
 
-// The whole walk, from a table in which every row is its own parent.
+// The whole walk, from a table in which every row is its own parent. It ends where no mark is left below.
 fn pass(n: usize, t: usize, shifts: &[u16], marks: &[u8], parent: &mut [u16]) -> Closing
     requires { ⌜ Walking n t (now shifts) (now marks) (now parent) (n * t) n 0 Closing.None ⌝ }
     ensures { λ r. ⌜ Passed n t (now (shifts .entry)) (now (marks .entry)) (now (parent .exit)) r ⌝ }
 {
+    let low = 8 * pass_zeros(marks, 0);
     let mut left = n * t;
     let mut walk = Walk {
         spot: Spot {
@@ -146,7 +149,7 @@ fn pass(n: usize, t: usize, shifts: &[u16], marks: &[u8], parent: &mut [u16]) ->
         },
         closing: Closing::None,
     };
-    while 0 < left {
+    while low < left {
         walk = step(n, t, shifts, marks, &mut parent[..], walk);
         left = walk.spot.place.0 as usize;
     }

@@ -1,26 +1,51 @@
--- `walk::back` meets its contract. Assumes nothing.
-use Rattle.components.specs.Back.{section-pos, stands-back}
-use borrow.Author.Needs.{needs}
+-- `walk::back` meets its contract. The invariant: section and offset still give the place. The measure is what the offset lacks to m. Assumes nothing.
+use Prim.Native.Nat.{_-_}
+use native.Mathlib.Omega.{arith}
+use Rattle.components.specs.Back.{Goes, goes-start, goes-pos, goes-more, goes-end}
 use Rattle.components.proofs.walk.back.Statement.{statement}
 use Rattle.components.proofs.walk.back.Tie as tie
 
-sub-t4 : tie.Need-sub-t4
-sub-t4 c = search needs
+abbrev Inv-loop : tie.InvT-loop
+Inv-loop spot t m section₀ offset₀ section offset = Goes t (spot .place .0) m section offset
 
-sub-t6 : tie.Need-sub-t6
-sub-t6 c = search needs
+abbrev μ-loop : tie.MeasureT-loop
+μ-loop spot t m section₀ offset₀ section offset = m - offset
 
-returns : tie.Need-returns
-returns c = search needs
+loop-holds : tie.Need-loop-holds Inv-loop μ-loop
+loop-holds c = goes-start _ (c .pre .0) (c .pre .1)
 
-sub-t7 : tie.Need-sub-t7
-sub-t7 c = section-pos _ _ _ _ (c .before .before .before .before .pre .0 .whole) (search needs)
+add-offset : tie.Need-add-offset Inv-loop μ-loop
+add-offset c = omega arith
 
-sub-t8 : tie.Need-sub-t8
-sub-t8 c = search needs
+sub-section : tie.Need-sub-section Inv-loop μ-loop
+sub-section c = goes-pos (c .before .loop .inv) (c .loop-test .taken)
 
-returns-2 : tie.Need-returns-2
-returns-2 c = (stands-back (record { whole = search needs; within = search needs }) (c .before .before .before .before .pre .1), search needs)
+loop-less : tie.Need-loop-less Inv-loop μ-loop
+loop-less c = omega arith
+
+loop-again : tie.Need-loop-again Inv-loop μ-loop
+loop-again c = goes-more (c .before .loop .inv) (c .loop-test .taken)
+
+cast-t7 : tie.Need-cast-t7 Inv-loop μ-loop
+cast-t7 c = omega arith
+
+sub-t8 : tie.Need-sub-t8 Inv-loop μ-loop
+sub-t8 c = omega arith
+
+returns : tie.Need-returns Inv-loop μ-loop
+returns c = (goes-end (c .before .before .loop .inv) (c .before .loop-test .left), omega arith)
 
 pub back-spec : {M : Type 1} → statement M
-back-spec = tie.close (tie.spec sub-t4 sub-t6 returns sub-t7 sub-t8 returns-2)
+back-spec =
+    tie.close
+    (tie.spec
+    Inv-loop
+    μ-loop
+    loop-holds
+    add-offset
+    sub-section
+    loop-less
+    loop-again
+    cast-t7
+    sub-t8
+    returns)

@@ -9,19 +9,25 @@ use Rattle.components.proofs.walk.pass.Statement.{statement}
 use Rattle.components.proofs.walk.pass.Tie as tie
 
 abbrev Inv-loop : tie.InvT-loop
-Inv-loop n t shifts marks parent₀ left₀ walk₀ parent left walk = Walking n t shifts marks parent (walk .spot .place .0) (walk .spot .section) (walk .spot .offset) (walk .closing) × (left ≡ walk .spot .place .0) × (length parent ≡ length parent₀)
+Inv-loop n t shifts marks parent₀ low left₀ walk₀ parent left walk = Walking n t shifts marks parent (walk .spot .place .0) (walk .spot .section) (walk .spot .offset) (walk .closing) × (left ≡ walk .spot .place .0) × (length parent ≡ length parent₀)
 
 abbrev μ-loop : tie.MeasureT-loop
-μ-loop n t shifts marks parent₀ left₀ walk₀ parent left walk = left
+μ-loop n t shifts marks parent₀ low left₀ walk₀ parent left walk = left
+
+pass-zeros-requires : tie.Need-pass-zeros-requires Inv-loop μ-loop
+pass-zeros-requires c κs = omega (arith, c .before .before .before .pre .sized, c .before .before .before .pre .bytes)
+
+mul-low : tie.Need-mul-low Inv-loop μ-loop
+mul-low c = omega (arith, c .pass-zeros .ensures .1)
 
 mul-left : tie.Need-mul-left Inv-loop μ-loop
-mul-left c = omega (arith, c .before .before .before .pre .sized)
+mul-left c = omega (arith, c .before .before .before .before .pre .sized)
 
-cast-t8 : tie.Need-cast-t8 Inv-loop μ-loop
-cast-t8 c = omega (arith, c .before .before .before .pre .sized)
+cast-t10 : tie.Need-cast-t10 Inv-loop μ-loop
+cast-t10 c = omega (arith, c .before .before .before .before .pre .sized)
 
 loop-holds : tie.Need-loop-holds Inv-loop μ-loop
-loop-holds c = (c .before .before .before .pre, refl, refl)
+loop-holds c = (c .before .before .before .before .pre, refl, refl)
 
 step-requires : tie.Need-step-requires Inv-loop μ-loop
 step-requires c κs = (c .before .before .loop .inv .0, omega (arith, c .before .before .loop .inv .1, c .before .loop-test .taken))
@@ -39,7 +45,7 @@ same-length : tie.Need-same-length Inv-loop μ-loop
 same-length c = c .before .loop .inv .2
 
 returns : tie.Need-returns Inv-loop μ-loop
-returns c = walking-passed (c .before .loop .inv .0) (omega (arith, c .loop-test .left, c .before .loop .inv .1))
+returns c = walking-passed (c .before .loop .inv .0) (c .before .before .pass-zeros .ensures .0) (omega (arith, c .loop-test .left, c .before .loop .inv .1))
 
 pub pass-spec : {M : Type 1} → statement M
 pass-spec =
@@ -47,8 +53,10 @@ pass-spec =
     (tie.spec
     Inv-loop
     μ-loop
+    pass-zeros-requires
+    mul-low
     mul-left
-    cast-t8
+    cast-t10
     loop-holds
     step-requires
     cast-left
