@@ -5,6 +5,7 @@ ghost use mathlib.Core.Path.{_≡_};
 ghost use Prim.Native.Nat.{_+_, _*_, _/_};
 ghost use mathlib.Core.List.{map};
 ghost use lib.ListN.{getD, replicate};
+ghost use Rattle.math.specs.Gcd.{gcd as gcdOf};
 ghost use Rattle.code.specs.Laws.ParityCount.{messages};
 ghost use Rattle.plan.specs.Layout.{Layout, layout};
 ghost use Rattle.runs.specs.Sized.{Sized};
@@ -28,11 +29,21 @@ pub fn runs(n: usize, t: usize, shifts: &[u16]) -> [u16; 32]
     let mut j = n - 1;
     while 0 < j {
         j -= 1;
-        let h = gcd(gap(wide(shifts[j]), last), g);
+        let h = share(gap(wide(shifts[j]), last), g);
         r[j] = (t - g + h) as u16;
         g = h;
     }
     r
+}
+
+// The greatest common divisor, with no division once g is 1: it then stays 1.
+fn share(a: usize, g: usize) -> usize
+    ensures { λ r. ⌜ r ≡ gcdOf a g ⌝ }
+{
+    if g == 1 {
+        return 1;
+    }
+    gcd(a, g)
 }
 
 // The message of a block.

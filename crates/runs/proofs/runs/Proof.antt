@@ -48,23 +48,23 @@ wide-requires-2 c κs = search needs
 gap-requires : tie.Need-gap-requires Inv-loop μ-loop
 gap-requires c κs = search needs
 
-gcd-requires : tie.Need-gcd-requires Inv-loop μ-loop
-gcd-requires c κs = search needs
+share-requires : tie.Need-share-requires Inv-loop μ-loop
+share-requires c κs = search needs
 
 sub-r : tie.Need-sub-r Inv-loop μ-loop
 sub-r c =
     let k = known-fits _ _ _ (c .before .before .before .before .before .before .before .before .before .pre) (c .before .gap .result) (c .before .before .before .before .before .loop .inv .1) in
-    omega (arith, k .0, k .1, c .gcd .ensures)
+    omega (arith, k .0, k .1, c .share .ensures)
 
 add-r : tie.Need-add-r Inv-loop μ-loop
 add-r c =
     let k = known-fits _ _ _ (c .before .before .before .before .before .before .before .before .before .pre) (c .before .gap .result) (c .before .before .before .before .before .loop .inv .1) in
-    omega (arith, k .0, k .1, c .gcd .ensures)
+    omega (arith, k .0, k .1, c .share .ensures)
 
 cast-r : tie.Need-cast-r Inv-loop μ-loop
 cast-r c =
     let k = known-fits _ _ _ (c .before .before .before .before .before .before .before .before .before .pre) (c .before .gap .result) (c .before .before .before .before .before .loop .inv .1) in
-    omega (arith, k .0, k .1, c .gcd .ensures, c .before .before .before .before .before .before .before .before .before .pre .t-max)
+    omega (arith, k .0, k .1, c .share .ensures, c .before .before .before .before .before .before .before .before .before .pre .t-max)
 
 mul-r : tie.Need-mul-r Inv-loop μ-loop
 mul-r c = search needs
@@ -80,7 +80,7 @@ loop-again c =
     let inv = c .before .before .before .before .before .loop .inv in (
       inv .0,
       known-more _ _ _ (c .before .before .before .before .before .before .before .before .before .pre) (inv .1) (omega arith)
-          (c .gcd .ensures ∙ ap (λ (x : ℕ). gcd x (c .before .before .before .before .before .loop .g)) (c .before .gap .ensures ∙ ap₂ gap (c .before .before .wide2 .ensures) (inv .0)))
+          (c .share .ensures ∙ ap (λ (x : ℕ). gcd x (c .before .before .before .before .before .loop .g)) (c .before .gap .ensures ∙ ap₂ gap (c .before .before .wide2 .ensures) (inv .0)))
           refl refl,
     )
 
@@ -104,7 +104,7 @@ runs-spec =
     shared-slice-read-wide-2
     wide-requires-2
     gap-requires
-    gcd-requires
+    share-requires
     sub-r
     add-r
     cast-r
