@@ -1,27 +1,19 @@
 // Recovery: a block with erasures is filled, or the answer says why it cannot be.
 // Entry: recover.
-ghost use mathlib.Core.Path.{_≡_};
-ghost use lib.ListN.{length, replicate};
+ghost use Prim.Native.Nat.{_≤_};
 ghost use Rattle.plan.specs.Layout.{layout};
 ghost use Rattle.code.specs.Marks.{erasures};
-ghost use Rattle.peel.specs.Fill.{Fillable, filled};
 ghost use Rattle.promises.specs.Promises.{Recovers, Decides};
-ghost use Rattle.recovery.specs.Attempts.{Given, Room, Begun, Tried};
-use crate::explain::explain;
+ghost use Rattle.deciding.specs.Attempts.{Given};
 use calls::Check;
 use calls::Lent;
 use calls::Part;
 use calls::check_call;
-use peel::fill::clean;
-use peel::fill::fill;
-use peel::peel;
-use plan::Place;
+use deciding::cut;
+use deciding::intact;
+use deciding::recovered;
 use plan::Plan;
 use promises::Recovery;
-use tables::marks::clear_words;
-use tables::picture;
-
-mod explain;
 
 // Recovers the block, or leaves it as it is and says why; the witness list shows the answer's reason.
 pub fn recover(plan: Plan, block: &mut [u8], marks: &[u8], witness: &mut [u16]) -> Recovery
@@ -42,7 +34,8 @@ pub fn recover(plan: Plan, block: &mut [u8], marks: &[u8], witness: &mut [u16]) 
     }
 }
 
-// The tables of the block, and the answer by them. The sums are kept as they are before peeling.
+// The language clears local arrays whole, so a small plan takes small tables. The large ones have some entries to spare: tables that stand whole pages apart
+// are slower.
 fn decide(
     n: usize,
     t: usize,
@@ -54,122 +47,202 @@ fn decide(
     requires { ⌜ Given n t (now shifts) (now block) (now marks) (now witness) ⌝ }
     ensures { λ r. ⌜ Decides (layout n t (now (shifts .entry))) (erasures (layout n t (now (shifts .entry))) (now (marks .entry))) (now (block .entry)) r (now (block .exit)) (now (witness .exit)) ⌝ }
 {
-    let rows = 2 * t;
-    let mut sum = [0u8; 4096];
-    let mut left = [0u16; 4096];
-    let mut code = [0u16; 4096];
-    picture(
-        n,
-        t,
-        shifts,
-        &block[..],
-        marks,
-        Place(0),
-        &mut sum[..rows],
-        &mut left[..rows],
-        &mut code[..rows],
-    );
-    let kept = sum;
-    let mut queue = [0u16; 4096];
-    let mut place = [0u16; 4096];
-    let mut value = [0u8; 4096];
-    attempt(
-        n,
-        t,
-        shifts,
-        block,
-        marks,
-        &kept[..rows],
-        &mut sum[..rows],
-        &mut left[..rows],
-        &mut code[..rows],
-        &mut queue[..rows],
-        &mut place[..rows],
-        &mut value[..rows],
-        witness,
-    )
+    if t <= 32 {
+        return decide_small(n, t, shifts, block, marks, witness);
+    }
+    if t <= 256 {
+        return decide_medium(n, t, shifts, block, marks, witness);
+    }
+    if t <= 512 {
+        return decide_wide(n, t, shifts, block, marks, witness);
+    }
+    if t <= 1024 {
+        return decide_wider(n, t, shifts, block, marks, witness);
+    }
+    decide_large(n, t, shifts, block, marks, witness)
 }
 
-// Peels, and finishes by what is left.
-fn attempt(
+fn decide_small(
     n: usize,
     t: usize,
     shifts: &[u16],
     block: &mut [u8],
     marks: &[u8],
-    kept: &[u8],
-    sum: &mut [u8],
-    left: &mut [u16],
-    code: &mut [u16],
-    queue: &mut [u16],
-    place: &mut [u16],
-    value: &mut [u8],
     witness: &mut [u16],
 ) -> Recovery
     requires { ⌜ Given n t (now shifts) (now block) (now marks) (now witness) ⌝ }
-    requires { ⌜ Begun n t (now shifts) (now block) (now marks) (now kept) (now sum) (now left) (now code) ⌝ }
-    requires { ⌜ Room t (now queue) (now place) (now value) ⌝ }
+    requires { ⌜ t ≤ 32 ⌝ }
     ensures { λ r. ⌜ Decides (layout n t (now (shifts .entry))) (erasures (layout n t (now (shifts .entry))) (now (marks .entry))) (now (block .entry)) r (now (block .exit)) (now (witness .exit)) ⌝ }
 {
-    let k = peel(
+    let mut sum = [0u8; 64];
+    if intact(n, t, shifts, &block[..], marks, &mut sum[..]) {
+        return recovered(witness);
+    }
+    let mut left = [0u16; 64];
+    let mut code = [0u16; 64];
+    let mut queue = [0u16; 64];
+    let mut place = [0u16; 64];
+    let mut value = [0u8; 64];
+    cut(
         n,
         t,
         shifts,
+        block,
+        marks,
         &mut sum[..],
         &mut left[..],
         &mut code[..],
         &mut queue[..],
         &mut place[..],
         &mut value[..],
-    );
-    finish(
-        n,
-        t,
-        shifts,
-        block,
-        marks,
-        kept,
-        &sum[..],
-        &left[..],
-        &place[..],
-        &value[..],
-        k,
         witness,
     )
 }
 
-// Where nothing is left and every row sums to 0 the block is filled; otherwise it stays, and the refusal is explained by the sums before peeling.
-fn finish(
+fn decide_medium(
     n: usize,
     t: usize,
     shifts: &[u16],
     block: &mut [u8],
     marks: &[u8],
-    kept: &[u8],
-    sum: &[u8],
-    left: &[u16],
-    place: &[u16],
-    value: &[u8],
-    k: usize,
     witness: &mut [u16],
 ) -> Recovery
     requires { ⌜ Given n t (now shifts) (now block) (now marks) (now witness) ⌝ }
-    requires { ⌜ Tried n t (now shifts) (now block) (now marks) (now kept) (now sum) (now left) (now place) (now value) k ⌝ }
+    requires { ⌜ t ≤ 256 ⌝ }
     ensures { λ r. ⌜ Decides (layout n t (now (shifts .entry))) (erasures (layout n t (now (shifts .entry))) (now (marks .entry))) (now (block .entry)) r (now (block .exit)) (now (witness .exit)) ⌝ }
 {
-    if clean(sum, left) {
-        put_in(&mut block[..], place, value, k, &mut witness[..]);
-        return Recovery::Recovered;
+    let mut sum = [0u8; 512];
+    if intact(n, t, shifts, &block[..], marks, &mut sum[..]) {
+        return recovered(witness);
     }
-    explain(n, t, shifts, marks, kept, &mut witness[..])
+    let mut left = [0u16; 512];
+    let mut code = [0u16; 512];
+    let mut queue = [0u16; 512];
+    let mut place = [0u16; 512];
+    let mut value = [0u8; 512];
+    cut(
+        n,
+        t,
+        shifts,
+        block,
+        marks,
+        &mut sum[..],
+        &mut left[..],
+        &mut code[..],
+        &mut queue[..],
+        &mut place[..],
+        &mut value[..],
+        witness,
+    )
 }
 
-// The settled values go into the block, and the witness list is all zeros.
-fn put_in(block: &mut [u8], place: &[u16], value: &[u8], k: usize, witness: &mut [u16])
-    requires { ⌜ Fillable (now block) (now place) (now value) k ⌝ }
-    ensures { λ _. ⌜ now (block .exit) ≡ filled (now (block .entry)) (now (place .entry)) (now (value .entry)) k ⌝ }
-    ensures { λ _. ⌜ now (witness .exit) ≡ replicate (length (now (witness .entry))) 0 ⌝ }
+fn decide_wide(
+    n: usize,
+    t: usize,
+    shifts: &[u16],
+    block: &mut [u8],
+    marks: &[u8],
+    witness: &mut [u16],
+) -> Recovery
+    requires { ⌜ Given n t (now shifts) (now block) (now marks) (now witness) ⌝ }
+    requires { ⌜ t ≤ 512 ⌝ }
+    ensures { λ r. ⌜ Decides (layout n t (now (shifts .entry))) (erasures (layout n t (now (shifts .entry))) (now (marks .entry))) (now (block .entry)) r (now (block .exit)) (now (witness .exit)) ⌝ }
 {
-    fill(&mut block[..], place, value, k);
-    clear_words(&mut witness[..]);
+    let mut sum = [0u8; 1088];
+    if intact(n, t, shifts, &block[..], marks, &mut sum[..]) {
+        return recovered(witness);
+    }
+    let mut left = [0u16; 1088];
+    let mut code = [0u16; 1088];
+    let mut queue = [0u16; 1088];
+    let mut place = [0u16; 1088];
+    let mut value = [0u8; 1088];
+    cut(
+        n,
+        t,
+        shifts,
+        block,
+        marks,
+        &mut sum[..],
+        &mut left[..],
+        &mut code[..],
+        &mut queue[..],
+        &mut place[..],
+        &mut value[..],
+        witness,
+    )
+}
+
+fn decide_wider(
+    n: usize,
+    t: usize,
+    shifts: &[u16],
+    block: &mut [u8],
+    marks: &[u8],
+    witness: &mut [u16],
+) -> Recovery
+    requires { ⌜ Given n t (now shifts) (now block) (now marks) (now witness) ⌝ }
+    requires { ⌜ t ≤ 1024 ⌝ }
+    ensures { λ r. ⌜ Decides (layout n t (now (shifts .entry))) (erasures (layout n t (now (shifts .entry))) (now (marks .entry))) (now (block .entry)) r (now (block .exit)) (now (witness .exit)) ⌝ }
+{
+    let mut sum = [0u8; 2112];
+    if intact(n, t, shifts, &block[..], marks, &mut sum[..]) {
+        return recovered(witness);
+    }
+    let mut left = [0u16; 2112];
+    let mut code = [0u16; 2112];
+    let mut queue = [0u16; 2112];
+    let mut place = [0u16; 2112];
+    let mut value = [0u8; 2112];
+    cut(
+        n,
+        t,
+        shifts,
+        block,
+        marks,
+        &mut sum[..],
+        &mut left[..],
+        &mut code[..],
+        &mut queue[..],
+        &mut place[..],
+        &mut value[..],
+        witness,
+    )
+}
+
+fn decide_large(
+    n: usize,
+    t: usize,
+    shifts: &[u16],
+    block: &mut [u8],
+    marks: &[u8],
+    witness: &mut [u16],
+) -> Recovery
+    requires { ⌜ Given n t (now shifts) (now block) (now marks) (now witness) ⌝ }
+    requires { ⌜ t ≤ 2048 ⌝ }
+    ensures { λ r. ⌜ Decides (layout n t (now (shifts .entry))) (erasures (layout n t (now (shifts .entry))) (now (marks .entry))) (now (block .entry)) r (now (block .exit)) (now (witness .exit)) ⌝ }
+{
+    let mut sum = [0u8; 4160];
+    if intact(n, t, shifts, &block[..], marks, &mut sum[..]) {
+        return recovered(witness);
+    }
+    let mut left = [0u16; 4160];
+    let mut code = [0u16; 4160];
+    let mut queue = [0u16; 4160];
+    let mut place = [0u16; 4160];
+    let mut value = [0u8; 4160];
+    cut(
+        n,
+        t,
+        shifts,
+        block,
+        marks,
+        &mut sum[..],
+        &mut left[..],
+        &mut code[..],
+        &mut queue[..],
+        &mut place[..],
+        &mut value[..],
+        witness,
+    )
 }

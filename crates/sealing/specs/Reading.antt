@@ -1,10 +1,11 @@
 -- Reading: the row test tells codewords from other blocks.
 -- Main result: tells-codeword.
 use mathlib.Core.Path.{_≡_, sym, _∙_, ap}
-use mathlib.Core.List.{List, []}
-use Prim.Native.Nat.{ℕ, _*_, _<_}
+use mathlib.Core.List.{List, [], _++_}
+use Prim.Native.Nat.{ℕ, _*_, _≤_, _<_}
 use native.Mathlib.Omega.{arith}
-use lib.ListN.{length, getD}
+use lib.ListN.{length, getD, take, length-append}
+use lib.Seq.{take-at}
 use Rattle.plan.specs.Layout.{layout}
 use Rattle.code.specs.Codewords.{Codeword}
 use Rattle.peel.specs.Fill.{cleanOf, clean-zero, zero-clean}
@@ -15,6 +16,14 @@ use Rattle.tables.specs.SumLaws.{Syndromes}
 pub record Tells (A : Type 0) (b : Bool) : Type 0 where
   pub yes : b ≡ true → A
   pub no : b ≡ false → ¬ A
+
+-- the sums come back at the front of their table
+module _ {n t : ℕ} {shifts v sum : List ℕ} (s : Syndromes n t shifts v sum) (rest : List ℕ) where
+  pub sums-room : 2 * t ≤ length (sum ++ rest)
+  sums-room = omega (arith, length-append sum rest, s .long)
+
+  pub sums-same : take (2 * t) (sum ++ rest) ≡ sum
+  sums-same = take-at sum rest (2 * t) (s .long)
 
 -- the test goes by a list that is the table of row sums
 pub tells-codeword : (n t : ℕ) (shifts v : List ℕ) {sum list : List ℕ} {b : Bool} → length v ≡ n * t → ((c : ℕ) → getD v c 0 < 256) →

@@ -1,22 +1,24 @@
 // Encoding: the codeword that carries a message. And reading the message of a codeword.
 // Entries: encode, message_of.
 ghost use mathlib.Core.Path.{_≡_};
-ghost use mathlib.Core.List.{[], map};
-ghost use Prim.Native.Nat.{_*_};
-ghost use lib.ListN.{length, getD};
+ghost use Prim.Native.Nat.{_*_, _≤_};
+ghost use lib.ListN.{length};
 ghost use Rattle.plan.specs.Layout.{layout, messageCount};
 ghost use Rattle.code.specs.Codewords.{Codeword};
 ghost use Rattle.code.specs.Messages.{Carries};
-ghost use Rattle.code.specs.Laws.ParityCount.{messages};
 ghost use Rattle.tables.specs.Picture.{Sized};
-ghost use Rattle.calls.specs.Calls.{checkOf};
-ghost use Rattle.promises.specs.Promises.{messageLent, Encodes, Reads};
+ghost use Rattle.runs.specs.Laws.Fronts.{total};
+ghost use Rattle.promises.specs.Promises.{Encodes, Reads};
 ghost use Rattle.sealing.specs.Reading.{Tells};
-use crate::parities::fill_parities;
+ghost use Rattle.parities.specs.Zeros.{Zeros};
+ghost use Rattle.parities.specs.Settling.{Sealable};
+ghost use Rattle.sealing.specs.Passing.{Checks};
 use calls::Check;
 use calls::Lent;
 use calls::Part;
+use calls::Refusal;
 use calls::check_call;
+use parities::fill_parities;
 use peel::fill::clean;
 use plan::Plan;
 use promises::Encoding;
@@ -24,31 +26,69 @@ use promises::Reading;
 use runs::gather;
 use runs::runs;
 use runs::spread;
+use shifts::wide;
 use tables::sums::syndromes;
 
-mod parities;
+// What refuses a call; and the runs, where it passes.
+struct Checked {
+    check: Check,
+    runs: [u16; 32],
+}
 
-// What refuses a call with a message and a block, and no marks.
-fn check(plan: Plan, message: &[u8], block: &[u8]) -> Check
-    ensures { λ r. ⌜ r ≡ checkOf plan (messageLent (now (message .entry)) (now (block .entry))) [] ⌝ }
+// The sum of the first n runs.
+fn run_total(n: usize, runs: &[u16]) -> usize
+    requires { ⌜ (n ≤ 32) × (n ≤ length (now runs)) ⌝ }
+    ensures { λ r. ⌜ r ≡ total (now (runs .entry)) n ⌝ }
+{
+    let mut sum = 0;
+    let mut j = 0;
+    while j < n {
+        sum += wide(runs[j]);
+        j += 1;
+    }
+    sum
+}
+
+// A call with a message and a block, and no marks. The message has as many symbols as the runs have places.
+fn check(plan: Plan, message: &[u8], block: &[u8]) -> Checked
+    ensures { λ r. ⌜ Checks plan (now (message .entry)) (now (block .entry)) (r .check) (r .runs) ⌝ }
 {
     let lent = Lent {
         block: Part::Of(block.len()),
         marks: Part::Unlent,
         witness: Part::Unlent,
-        message: Part::Of(message.len()),
+        message: Part::Unlent,
     };
-    check_call(plan, lent, &message[0..0])
+    let n = plan.n;
+    let s = plan.shifts;
+    match check_call(plan, lent, &message[0..0]) {
+        Check::Stop(x) => Checked {
+            check: Check::Stop(x),
+            runs: [0u16; 32],
+        },
+        Check::Pass => {
+            let r = runs(n, plan.t, &s[..]);
+            if run_total(n, &r[..]) != message.len() {
+                return Checked {
+                    check: Check::Stop(Refusal::Length),
+                    runs: r,
+                };
+            }
+            Checked {
+                check: Check::Pass,
+                runs: r,
+            }
+        }
+    }
 }
 
 // Writes the codeword that carries the message.
-fn seal(n: usize, t: usize, shifts: &[u16], message: &[u8], block: &mut [u8])
-    requires { ⌜ Sized n t (now shifts) × (length (now block) ≡ n * t) × (length (now message) ≡ messageCount (layout n t (now shifts))) ⌝ }
+fn seal(n: usize, t: usize, shifts: &[u16], runs: &[u16], message: &[u8], block: &mut [u8])
+    requires { ⌜ Sealable n t (now shifts) (now runs) (now block) × (length (now message) ≡ messageCount (layout n t (now shifts))) ⌝ }
     ensures { λ _. ⌜ Carries (layout n t (now (shifts .entry))) (now (block .exit)) (now (message .entry)) ⌝ }
 {
-    let r = runs(n, t, shifts);
-    spread(n, t, &r[..], message, &mut block[..]);
-    fill_parities(n, t, shifts, &r[..], &mut block[..]);
+    spread(n, t, runs, message, &mut block[..]);
+    fill_parities(n, t, shifts, runs, &mut block[..]);
 }
 
 // The one codeword that carries the message is written to the block. There always is one.
@@ -58,33 +98,68 @@ pub fn encode(plan: Plan, message: &[u8], block: &mut [u8]) -> Encoding
     let n = plan.n;
     let t = plan.t;
     let s = plan.shifts;
-    match check(plan, message, &block[..]) {
+    let k = check(plan, message, &block[..]);
+    let c = k.check;
+    let r = k.runs;
+    match c {
         Check::Pass => {
-            seal(n, t, &s[..], message, &mut block[..]);
+            seal(n, t, &s[..], &r[..], message, &mut block[..]);
             Encoding::Encoded
         }
         Check::Stop(x) => Encoding::Refused(x),
     }
 }
 
-// Whether every row of the block sums to 0. There are no erasures, so none is left.
-fn is_codeword(n: usize, t: usize, shifts: &[u16], block: &[u8]) -> bool
+// Whether every row of the block sums to 0, by a table of zeros. There are no erasures, so none is left.
+fn rows_clean(n: usize, t: usize, shifts: &[u16], block: &[u8], sum: &mut [u8]) -> bool
     requires { ⌜ Sized n t (now shifts) × (length (now block) ≡ n * t) ⌝ }
+    requires { ⌜ Zeros (2 * t) (now sum) ⌝ }
     ensures { λ r. ⌜ Tells (Codeword (layout n t (now (shifts .entry))) (now (block .entry))) r ⌝ }
 {
-    let mut sum = [0u8; 4096];
     let rows = 2 * t;
     syndromes(n, t, shifts, block, &mut sum[..rows]);
     clean(&sum[..rows], &shifts[0..0])
 }
 
-// Copies the symbols at the message places.
-fn unseal(n: usize, t: usize, shifts: &[u16], block: &[u8], message: &mut [u8])
-    requires { ⌜ Sized n t (now shifts) × (length (now block) ≡ n * t) × (length (now message) ≡ messageCount (layout n t (now shifts))) ⌝ }
-    ensures { λ _. ⌜ now (message .exit) ≡ map (λ c. getD (now (block .entry)) c 0) (messages (layout n t (now (shifts .entry)))) ⌝ }
+fn clean_small(n: usize, t: usize, shifts: &[u16], block: &[u8]) -> bool
+    requires { ⌜ Sized n t (now shifts) × (length (now block) ≡ n * t) ⌝ }
+    requires { ⌜ t ≤ 32 ⌝ }
+    ensures { λ r. ⌜ Tells (Codeword (layout n t (now (shifts .entry))) (now (block .entry))) r ⌝ }
 {
-    let r = runs(n, t, shifts);
-    gather(n, t, &r[..], block, &mut message[..]);
+    let mut sum = [0u8; 64];
+    rows_clean(n, t, shifts, block, &mut sum[..])
+}
+
+fn clean_medium(n: usize, t: usize, shifts: &[u16], block: &[u8]) -> bool
+    requires { ⌜ Sized n t (now shifts) × (length (now block) ≡ n * t) ⌝ }
+    requires { ⌜ t ≤ 256 ⌝ }
+    ensures { λ r. ⌜ Tells (Codeword (layout n t (now (shifts .entry))) (now (block .entry))) r ⌝ }
+{
+    let mut sum = [0u8; 512];
+    rows_clean(n, t, shifts, block, &mut sum[..])
+}
+
+fn clean_large(n: usize, t: usize, shifts: &[u16], block: &[u8]) -> bool
+    requires { ⌜ Sized n t (now shifts) × (length (now block) ≡ n * t) ⌝ }
+    requires { ⌜ t ≤ 2048 ⌝ }
+    ensures { λ r. ⌜ Tells (Codeword (layout n t (now (shifts .entry))) (now (block .entry))) r ⌝ }
+{
+    let mut sum = [0u8; 4096];
+    rows_clean(n, t, shifts, block, &mut sum[..])
+}
+
+// The row test, with a table of the plan's size.
+fn is_codeword(n: usize, t: usize, shifts: &[u16], block: &[u8]) -> bool
+    requires { ⌜ Sized n t (now shifts) × (length (now block) ≡ n * t) ⌝ }
+    ensures { λ r. ⌜ Tells (Codeword (layout n t (now (shifts .entry))) (now (block .entry))) r ⌝ }
+{
+    if t <= 32 {
+        return clean_small(n, t, shifts, block);
+    }
+    if t <= 256 {
+        return clean_medium(n, t, shifts, block);
+    }
+    clean_large(n, t, shifts, block)
 }
 
 // The message that the block carries. A block that is no codeword carries none, and nothing is written.
@@ -94,12 +169,15 @@ pub fn message_of(plan: Plan, block: &[u8], message: &mut [u8]) -> Reading
     let n = plan.n;
     let t = plan.t;
     let s = plan.shifts;
-    match check(plan, &message[..], block) {
+    let k = check(plan, &message[..], block);
+    let c = k.check;
+    let r = k.runs;
+    match c {
         Check::Pass => {
             if !is_codeword(n, t, &s[..], block) {
                 return Reading::Crossed;
             }
-            unseal(n, t, &s[..], block, &mut message[..]);
+            gather(n, t, &r[..], block, &mut message[..]);
             Reading::Read
         }
         Check::Stop(x) => Reading::Refused(x),

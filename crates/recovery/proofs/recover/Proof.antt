@@ -6,7 +6,7 @@ use mathlib.Core.Path.{_≡_, sym, _∙_}
 use lib.ListN.{length}
 use Rattle.promises.specs.Promises.{recoverLent}
 use Rattle.promises.specs.Building.{recovers-refused}
-use Rattle.recovery.specs.Attempts.{call-given, call-decided}
+use Rattle.deciding.specs.Attempts.{call-given, call-decided}
 
 check-call-requires : tie.Need-check-call-requires
 check-call-requires c κs = search needs

@@ -1,6 +1,6 @@
 -- A call that passes is sealed; a call that stops keeps the block.
-use mathlib.Core.Path.{_≡_, sym, _∙_}
 use borrow.Author.Needs.{needs}
+use mathlib.Core.Path.{_≡_, sym, _∙_}
 use lib.ListN.{length}
 use Rattle.promises.specs.Building.{encodes-refused}
 use Rattle.sealing.specs.Passing.{pass-sized, pass-long, encoded}
@@ -16,27 +16,38 @@ enum-told c = search needs
 slice-aggregate-seal : tie.Need-slice-aggregate-seal
 slice-aggregate-seal c = search needs
 
-seal-requires : tie.Need-seal-requires
-seal-requires c κs =
-    let pass = sym (c .before .before .before .before .check .ensures) ∙ c .before .before .enum-told .given .1 in
-    let l : length (c .before .before .before .before .before .before .before .before .before .args .plan .shifts) ≡ 32 = search needs in
-    let e = pass-long _ _ _ pass in
-    (pass-sized _ _ _ pass l, e .0, e .1)
+slice-aggregate-seal-2 : tie.Need-slice-aggregate-seal-2
+slice-aggregate-seal-2 c = search needs
 
-enum-known-x : tie.Need-enum-known-x
-enum-known-x c = search needs
+seal-requires : tie.Need-seal-requires
+seal-requires c κs = let l : length (c .before .before .before .before .before .before .before .before .before .before .before .args .plan .shifts) ≡ 32 = search needs in let e = pass-long _ _ _ (sym (c .before .before .before .before .before .before .check .ensures .answer) ∙ c .before .before .before .enum-told .given .1) in (record { sized = pass-sized _ _ _ (sym (c .before .before .before .before .before .before .check .ensures .answer) ∙ c .before .before .before .enum-told .given .1) l; of = c .before .before .before .before .before .before .check .ensures .of (c .before .before .before .enum-told .given .1); block-long = e .0 }, e .1)
+
+enum-known-c : tie.Need-enum-known-c
+enum-known-c c = search needs
 
 same-length : tie.Need-same-length
-same-length c = c .before .before .seal .kept .1 .1 .1 .1 .0
+same-length c = c .before .before .seal .kept .1 .1 .1 .1 .1 .0
 
 returns : tie.Need-returns
-returns c = encoded _ _ _ (sym (c .before .before .before .before .before .before .before .check .ensures) ∙ c .before .before .before .before .before .enum-told .given .1) (c .before .before .seal .ensures)
+returns c = encoded _ _ _ (sym (c .before .before .before .before .before .before .before .before .before .check .ensures .answer) ∙ c .before .before .before .before .before .before .enum-told .given .1) (c .before .before .seal .ensures)
 
 same-length-2 : tie.Need-same-length-2
 same-length-2 c = search needs
 
 returns-2 : tie.Need-returns-2
-returns-2 c = encodes-refused _ _ _ (sym (c .before .before .before .check .ensures) ∙ c .before .x .given .1)
+returns-2 c = encodes-refused _ _ _ (sym (c .before .before .before .before .check .ensures .answer) ∙ c .before .c .given .1)
 
 pub encode-spec : {M : Type 1} → statement M
-encode-spec = tie.close (tie.spec check-requires enum-told slice-aggregate-seal seal-requires enum-known-x same-length returns same-length-2 returns-2)
+encode-spec =
+    tie.close
+    (tie.spec
+    check-requires
+    enum-told
+    slice-aggregate-seal
+    slice-aggregate-seal-2
+    seal-requires
+    enum-known-c
+    same-length
+    returns
+    same-length-2
+    returns-2)

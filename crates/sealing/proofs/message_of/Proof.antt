@@ -1,6 +1,6 @@
 -- A call that stops and a block that is no codeword keep the message buffer; otherwise the message is read.
-use mathlib.Core.Path.{_≡_, sym, _∙_}
 use borrow.Author.Needs.{needs}
+use mathlib.Core.Path.{_≡_, sym, _∙_}
 use borrow.Author.Tests.{not-true, not-false}
 use lib.ListN.{length}
 use Rattle.promises.specs.Building.{reads-refused}
@@ -18,43 +18,49 @@ slice-aggregate-is-codeword : tie.Need-slice-aggregate-is-codeword
 slice-aggregate-is-codeword c = search needs
 
 is-codeword-requires : tie.Need-is-codeword-requires
-is-codeword-requires c κs =
-    let pass = sym (c .before .before .before .check .ensures) ∙ c .before .enum-told .given .1 in
-    let l : length (c .before .before .before .before .before .before .before .before .args .plan .shifts) ≡ 32 = search needs in
-    (pass-sized _ _ _ pass l, pass-long _ _ _ pass .0)
+is-codeword-requires c κs = let l : length (c .before .before .before .before .before .before .before .before .before .args .plan .shifts) ≡ 32 = search needs in (pass-sized _ _ _ (sym (c .before .before .before .before .check .ensures .answer) ∙ c .before .enum-told .given .1) l, pass-long _ _ _ (sym (c .before .before .before .before .check .ensures .answer) ∙ c .before .enum-told .given .1) .0)
 
 same-length : tie.Need-same-length
 same-length c = search needs
 
 returns : tie.Need-returns
-returns c = crossed _ _ _ (sym (c .before .before .before .before .before .check .ensures) ∙ c .before .before .before .enum-told .given .1) (c .before .is-codeword .ensures .no (not-true _ (c .if1 .taken)))
+returns c = crossed _ _ _ (sym (c .before .before .before .before .before .before .check .ensures .answer) ∙ c .before .before .before .enum-told .given .1) (c .before .is-codeword .ensures .no (not-true _ (c .if1 .taken)))
 
-slice-aggregate-unseal : tie.Need-slice-aggregate-unseal
-slice-aggregate-unseal c = search needs
+slice-aggregate-gather : tie.Need-slice-aggregate-gather
+slice-aggregate-gather c = search needs
 
-unseal-requires : tie.Need-unseal-requires
-unseal-requires c κs =
-    let pass = sym (c .before .before .before .before .before .before .before .check .ensures) ∙ c .before .before .before .before .before .enum-told .given .1 in
-    let l : length (c .before .before .before .before .before .before .before .before .before .before .before .before .args .plan .shifts) ≡ 32 = search needs in
-    let e = pass-long _ _ _ pass in
-    (pass-sized _ _ _ pass l, e .0, e .1)
+gather-requires : tie.Need-gather-requires
+gather-requires c κs = let e = pass-long _ _ _ (sym (c .before .before .before .before .before .before .before .before .check .ensures .answer) ∙ c .before .before .before .before .before .enum-told .given .1) in record { L = _; of = c .before .before .before .before .before .before .before .before .check .ensures .of (c .before .before .before .before .before .enum-told .given .1); block-long = e .0; message-long = e .1 }
 
-enum-known-x : tie.Need-enum-known-x
-enum-known-x c = search needs
+enum-known-c : tie.Need-enum-known-c
+enum-known-c c = search needs
 
 same-length-2 : tie.Need-same-length-2
-same-length-2 c = c .before .before .unseal .kept .1 .1 .1 .1 .0
+same-length-2 c = c .before .before .gather .kept .1 .1 .1 .1 .0
 
 returns-2 : tie.Need-returns-2
-returns-2 c =
-    read _ _ _ (sym (c .before .before .before .before .before .before .before .before .before .before .check .ensures) ∙ c .before .before .before .before .before .before .before .before .enum-told .given .1)
-    (c .before .before .before .before .before .before .is-codeword .ensures .yes (not-false _ (c .before .before .before .before .before .if1 .left))) (c .before .before .unseal .ensures)
+returns-2 c = read _ _ _ (sym (c .before .before .before .before .before .before .before .before .before .before .before .check .ensures .answer) ∙ c .before .before .before .before .before .before .before .before .enum-told .given .1) (c .before .before .before .before .before .before .is-codeword .ensures .yes (not-false _ (c .before .before .before .before .before .if1 .left))) (c .before .before .gather .ensures _ (c .before .before .before .before .before .before .before .before .before .before .before .check .ensures .of (c .before .before .before .before .before .before .before .before .enum-told .given .1)))
 
 same-length-3 : tie.Need-same-length-3
 same-length-3 c = search needs
 
 returns-3 : tie.Need-returns-3
-returns-3 c = reads-refused _ _ _ (sym (c .before .before .before .check .ensures) ∙ c .before .x .given .1)
+returns-3 c = reads-refused _ _ _ (sym (c .before .before .before .before .check .ensures .answer) ∙ c .before .c .given .1)
 
 pub message-of-spec : {M : Type 1} → statement M
-message-of-spec = tie.close (tie.spec check-requires enum-told slice-aggregate-is-codeword is-codeword-requires same-length returns slice-aggregate-unseal unseal-requires enum-known-x same-length-2 returns-2 same-length-3 returns-3)
+message-of-spec =
+    tie.close
+    (tie.spec
+    check-requires
+    enum-told
+    slice-aggregate-is-codeword
+    is-codeword-requires
+    same-length
+    returns
+    slice-aggregate-gather
+    gather-requires
+    enum-known-c
+    same-length-2
+    returns-2
+    same-length-3
+    returns-3)

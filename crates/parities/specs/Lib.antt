@@ -1,0 +1,3 @@
+-- The laws behind filling the parity places.
+pub mod Zeros
+pub mod Settling

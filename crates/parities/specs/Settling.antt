@@ -1,0 +1,192 @@
+-- Sealing: the parity places are a forest, so peeling settles them all, and the block becomes the codeword that carries the message.
+-- Main results: parity-picture, peelable, fillable, settled, sealed.
+use mathlib.Core.Path.{_≡_, sym, _∙_, ap, subst}
+use mathlib.Core.Logic.{⊎-elim, by-cases}
+use mathlib.Core.List.{List, [], map, List·Memᴰ·head as first, List·Memᴰ·tail as later, List·Memᴰ·not-nil, Memᴰ·cast}
+use Prim.Native.Nat.{ℕ, _+_, _*_, _/_, _≤_, _<_}
+use native.Mathlib.Nat.{mul-le-mul}
+use native.Mathlib.Omega.{arith}
+use lib.ListN.{length, getD, take, drop, replicate, length-replicate}
+use lib.Seq.{ext-getD, length-take-le}
+use Rattle.math.specs.Members.{_∈_}
+use Rattle.math.specs.MembersLaws.{decIn}
+use Rattle.plan.specs.Layout.{Layout, Valid, layout, messageCount}
+use Rattle.code.specs.Places.{places}
+use Rattle.code.specs.Codewords.{at, Agrees, blank}
+use Rattle.code.specs.Messages.{Carries}
+use Rattle.code.specs.Marks.{markBytes, erasures}
+use Rattle.code.specs.Laws.Basics.{places-∈}
+use Rattle.code.specs.Laws.Balance.{blank-outside}
+use Rattle.code.specs.Laws.Carrying.{lists-unique, carried-some}
+use Rattle.code.specs.Laws.ParityCount.{parities, messages, erased-parities, forest-parities, parity-lists, parity-or-message, message-lists}
+use Rattle.tables.specs.Picture.{Sized, Picture}
+use Rattle.tables.specs.Sizes.{sized-valid, ∈-sized}
+use Rattle.tables.specs.Scan.{fromPlace, from-zero}
+use Rattle.tables.specs.StuckLaws.{stuck-none}
+use Rattle.peel.specs.Fill.{filled, Fillable, filled-at, filled-out, filled-long}
+use Rattle.peel.specs.Peels.{Peelable, Peels, Peeled}
+use Rattle.runs.specs.Runs.{RunsOf, Marked, Spread}
+use Rattle.runs.specs.Laws.Carried.{layout-count}
+use Rattle.parities.specs.Zeros.{Zeros, zeros, zeros-part}
+
+-- a plan's numbers, its runs, and a block of its length
+pub record Sealable (n t : ℕ) (shifts runs block : List ℕ) : Type 0 where
+  pub sized : Sized n t shifts
+  pub of : RunsOf n t (layout n t shifts) runs
+  pub block-long : length block ≡ n * t
+
+-- three tables with an entry for each row
+pub record Room (t : ℕ) (a b c : List ℕ) : Type 0 where
+  pub first-long : length a ≡ 2 * t
+  pub second-long : length b ≡ 2 * t
+  pub third-long : length c ≡ 2 * t
+
+-- tables of zeros: the marks, and an entry for each row
+pub record Blank (n t : ℕ) (marks sum left code : List ℕ) : Type 0 where
+  pub marks-zeros : marks ≡ replicate ((n * t + 7) / 8) 0
+  pub sum-zeros : sum ≡ replicate (2 * t) 0
+  pub left-zeros : left ≡ replicate (2 * t) 0
+  pub code-zeros : code ≡ replicate (2 * t) 0
+
+-- the same with more room, and three tables beside them
+pub record Cut (n t : ℕ) (marks sum left code queue place value : List ℕ) : Type 0 where
+  pub marks-zeros : Zeros ((n * t + 7) / 8) marks
+  pub sum-zeros : Zeros (2 * t) sum
+  pub left-zeros : Zeros (2 * t) left
+  pub code-zeros : Zeros (2 * t) code
+  pub queue-room : 2 * t ≤ length queue
+  pub place-room : 2 * t ≤ length place
+  pub value-room : 2 * t ≤ length value
+
+pub cut-blank : {n t : ℕ} {marks sum left code queue place value : List ℕ} → Cut n t marks sum left code queue place value
+    → Blank n t (take ((n * t + 7) / 8) marks) (take (2 * t) sum) (take (2 * t) left) (take (2 * t) code)
+cut-blank c = record {
+  marks-zeros = zeros-part (c .marks-zeros);
+  sum-zeros = zeros-part (c .sum-zeros);
+  left-zeros = zeros-part (c .left-zeros);
+  code-zeros = zeros-part (c .code-zeros);
+}
+
+pub cut-room : {n t : ℕ} {marks sum left code queue place value : List ℕ} → Cut n t marks sum left code queue place value
+    → Room t (take (2 * t) queue) (take (2 * t) place) (take (2 * t) value)
+cut-room {t = t} {queue = queue} {place = place} {value = value} c = record {
+  first-long = length-take-le (2 * t) queue (c .queue-room);
+  second-long = length-take-le (2 * t) place (c .place-room);
+  third-long = length-take-le (2 * t) value (c .value-room);
+}
+
+-- arrays of k zeros, and of m for the marks
+pub cut-arrays : {n t : ℕ} (m k : ℕ) → (n * t + 7) / 8 ≤ m → 2 * t ≤ k
+    → Cut n t (replicate m 0) (replicate k 0) (replicate k 0) (replicate k 0) (replicate k 0) (replicate k 0) (replicate k 0)
+cut-arrays {t = t} m k g h =
+    let room : 2 * t ≤ length (replicate {A = ℕ} k 0) = omega (arith, length-replicate {A = ℕ} k 0) in
+    record {
+      marks-zeros = zeros m g;
+      sum-zeros = zeros k h;
+      left-zeros = zeros k h;
+      code-zeros = zeros k h;
+      queue-room = room;
+      place-room = room;
+      value-room = room;
+    }
+
+-- 32 sections at most
+pub few-marks : {n t : ℕ} {shifts : List ℕ} (h : ℕ) → Sized n t shifts → t ≤ h → (n * t + 7) / 8 ≤ 4 * h
+few-marks {n} {t} h s e = omega (arith, mul-le-mul (s .n-max) e)
+
+-- the tables picture the block with the parity places as erasures
+abbrev pub ParityPicture : Layout → List ℕ → List ℕ → List ℕ → List ℕ → Type 0
+ParityPicture L block sum left code = Picture L (parities L) (blank (parities L) (λ c. getD block c 0)) sum left code
+
+-- the block becomes every codeword that agrees with it off the parity places
+pub record Settled (L : Layout) (v v' : List ℕ) : Type 0 where
+  pub found : (w : List ℕ) → Agrees L (parities L) v w → v' ≡ w
+
+pub marked-long : (n t : ℕ) (shifts : List ℕ) {marks : List ℕ} → Marked (layout n t shifts) marks → length marks ≡ (n * t + 7) / 8
+unfolding markBytes layout
+marked-long n t shifts m = m .whole
+
+pub parity-picture : (n t : ℕ) (shifts block : List ℕ) {marks sum left code : List ℕ} → Marked (layout n t shifts) marks →
+    Picture (layout n t shifts) (fromPlace 0 (erasures (layout n t shifts) marks)) (blank (fromPlace 0 (erasures (layout n t shifts) marks)) (λ c. getD block c 0)) sum left code →
+    ParityPicture (layout n t shifts) block sum left code
+parity-picture n t shifts block {sum = sum} {left = left} {code = code} m p =
+    subst (λ E. Picture (layout n t shifts) E (blank E (λ c. getD block c 0)) sum left code) (from-zero _ ∙ m .exact) p
+
+pub peelable : {n t : ℕ} {shifts : List ℕ} → Sized n t shifts → (v : List ℕ) {sum left code queue place value : List ℕ} →
+    ParityPicture (layout n t shifts) v sum left code → Room t queue place value → Peelable n t shifts sum left code queue place value
+peelable {n} {t} {shifts} s v p room = record {
+  sized = s;
+  pictured = record { E = parities (layout n t shifts); u = blank (parities (layout n t shifts)) (λ c. getD v c 0); picture = p };
+  queue-long = room .first-long;
+  place-long = room .second-long;
+  value-long = room .third-long;
+}
+
+module _ {n t : ℕ} {shifts : List ℕ} (s : Sized n t shifts) (v : List ℕ) (long : length v ≡ n * t) {sum left code sum' left' code' place value : List ℕ} {k : ℕ}
+    (pic : ParityPicture (layout n t shifts) v sum left code)
+    (p : Peels (layout n t shifts) sum left code sum' left' code' place value k) where
+  ends : Peeled (layout n t shifts) (parities (layout n t shifts)) (blank (parities (layout n t shifts)) (λ c. getD v c 0)) sum' left' code' place value k
+  ends = p .peeled _ _ pic
+
+  -- peeling left nothing
+  none-left : ends .F ≡ []
+  none-left =
+      stuck-none (layout n t shifts) (sized-valid s) (erased-parities (layout n t shifts) .rising) (forest-parities (layout n t shifts))
+      (ends .picture .erased .rising) (ends .settles .fewer) (ends .stuck)
+
+  place-inside : (i : ℕ) → i < k → getD place i 0 < length v
+  unfolding layout
+  place-inside i h =
+      rw long (places-∈ (layout n t shifts) (erased-parities (layout n t shifts) .inside _ (ends .settles .settled i h .0)) .0)
+
+  pub fillable : Fillable v place value k
+  unfolding layout
+  fillable = record {
+    places = omega (arith, p .few, p .place-long);
+    values = omega (arith, p .few, p .value-long);
+    inside = place-inside;
+  }
+
+  -- the filled block, place by place
+  filled-is : (c : ℕ) → getD (filled v place value k) c 0 ≡ ends .x c
+  filled-is c =
+      by-cases (decIn c (parities (layout n t shifts)))
+      (λ m. filled-at v place value (ends .x) k place-inside (λ i h. ends .settles .settled i h .2)
+      (ends .settles .listed c m (λ q. List·Memᴰ·not-nil (subst (λ F. c ∈ F) none-left q))))
+      (λ out. filled-out v place value k (λ i h e. out (Memᴰ·cast (sym e) (ends .settles .settled i h .0)))
+      ∙ sym (blank-outside (λ c. getD v c 0) out) ∙ sym (ends .settles .kept c out))
+
+  pub settled : {v' : List ℕ} → v' ≡ filled v place value k → Settled (layout n t shifts) v v'
+  unfolding layout
+  settled e = record {
+    found = λ w a. e ∙ ext-getD 0 (filled v place value k) w (filled-long v place value k ∙ long ∙ sym (a .codeword .whole))
+        (λ c h. filled-is c
+        ∙ sym (ends .settles .forced (at w) (a .codeword .sums)
+        (λ d i out. a .unmarked d (places-∈ (layout n t shifts) i .0) out ∙ sym (blank-outside (λ c. getD v c 0) out))
+        c (∈-sized s (omega (arith, filled-long v place value k))) (λ q. List·Memᴰ·not-nil (subst (λ F. c ∈ F) none-left q))));
+  }
+
+map-at : (f g : ℕ → ℕ) {l : List ℕ} {c : ℕ} → map f l ≡ map g l → c ∈ l → f c ≡ g c
+map-at f g e (first q) = ap f q ∙ ap (λ l. getD l 0 0) e ∙ sym (ap g q)
+map-at f g e (later m) = map-at f g (ap (λ l. drop 1 l) e) m
+
+-- a codeword that carries the message agrees with the block that holds it
+spread-agrees : (L : Layout) → Valid L → {d v w : List ℕ} → ((c : ℕ) → c < L .n * L .t → c ∈ places L) → Spread L d v → Carries L w d → Agrees L (parities L) v w
+spread-agrees L ok {d} {v} {w} inside s p = record {
+  codeword = p .codeword;
+  unmarked = λ c h n.
+      let e : map (at w) (messages L) ≡ map (at v) (messages L) =
+      ap (map (at w)) (lists-unique (message-lists L ok) (p .message-places)) ∙ sym (p .symbols) ∙ sym (s .carried) in
+      map-at (at w) (at v) e
+      (⊎-elim (λ q. absurd (n (parity-lists L ok .exact c .1 q))) (λ q. message-lists L ok .exact c .1 q) (parity-or-message L ok c (inside c h)));
+}
+
+-- the message spread over the block, and the parity places filled: the block carries the message
+pub sealed : {n t : ℕ} {shifts d v v' : List ℕ} → Sized n t shifts → length d ≡ messageCount (layout n t shifts) → ((i : ℕ) → getD d i 0 < 256) →
+    Spread (layout n t shifts) d v → Settled (layout n t shifts) v v' → Carries (layout n t shifts) v' d
+unfolding layout
+sealed {n} {t} {shifts} {d} s e byte spread q =
+    let L = layout n t shifts in
+    let ok : Valid L = sized-valid s in
+    let c = carried-some L ok d (e ∙ sym (layout-count n t shifts s)) byte in
+    subst (λ x. Carries L x d) (sym (q .found (c .0) (spread-agrees L ok (λ a h. ∈-sized s h) spread (c .1)))) (c .1)
