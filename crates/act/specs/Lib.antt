@@ -4,5 +4,6 @@ pub mod Acts
 pub mod Wholes
 pub mod StateLaws
 pub mod ActLaws
+pub mod Fronts
 pub mod RecoverLaws
 pub mod MeaningOnce

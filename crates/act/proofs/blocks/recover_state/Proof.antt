@@ -3,7 +3,7 @@ use mathlib.Core.Path.{_≡_, refl, sym, _∙_}
 use native.Mathlib.Omega.{arith}
 use Prim.Native.Nat.{_*_, _≤_}
 use Rattle.plan.specs.PlanLaws.{good-bounds}
-use Rattle.sealing.specs.Zeros.{zeros-long}
+use Rattle.act.specs.Fronts.{zeros-long}
 use Rattle.act.specs.StateLaws.{places-most, places-fit, bytes-fit, front-long}
 use Rattle.act.specs.ActLaws.{lent-whole, recovered-acts}
 use borrow.Author.Needs.{needs}

@@ -5,7 +5,7 @@ use Prim.Native.Nat.{_≤_}
 use lib.ListN.{length}
 use Rattle.plan.specs.Plans.{layoutOf}
 use Rattle.plan.specs.Layout.{layout}
-use Rattle.sealing.specs.Zeros.{zeros-long, back-room, back-same, back-front}
+use Rattle.act.specs.Fronts.{zeros-long, back-room, back-same, back-front}
 use Rattle.act.specs.RecoverLaws.{plan-sized, count-most, carried}
 use borrow.Author.Needs.{needs}
 use Rattle.act.proofs.blocks.reseal.Statement.{statement}
