@@ -63,6 +63,9 @@ struct Run {
     mismatches: usize,
 }
 
+type Raw = unsafe extern "C" fn(Plan, *const u8, usize, *mut u8, usize) -> u8;
+type Safe = fn(&Plan, &[u8], &mut [u8]) -> Result<(), Refusal>;
+
 impl Run {
     /// Counts a case under the number that the reference expects, and reports it if the two differ.
     fn hold<T: PartialEq + std::fmt::Debug>(&mut self, entry: &'static str, size: usize, number: u8, what: impl Fn() -> String, got: &T, wanted: &T) {
@@ -188,28 +191,26 @@ impl Run {
 
     fn encode(&mut self, plan: &Plan, code: Result<&Code, u8>, size: usize, message: &[u8], block: &[u8]) {
         let wanted = reference::encode(code, message, block);
-        let lend = |block: &[u8]| (Lent::of(message, 1), Lent::of(block, 2));
-        let mut lent = lend(block);
-        let (m, b) = (lent.0.inner(), lent.1.inner());
-        let raw = unsafe { sys::fumizhaki_encode(*plan, m.as_ptr(), m.len(), b.as_mut_ptr(), b.len()) };
-        let mut again = lend(block);
-        let safe = plan.encode(again.0.inner(), again.1.inner()).map_or_else(Refusal::number, |()| 0);
-        let after = lend(&wanted.written);
-        let expected = (wanted.number, wanted.number, after.clone(), after);
-        self.hold("encode", size, wanted.number, || format!("{}, message {message:?}", show(plan)), &(raw, safe, lent, again), &expected);
+        self.written("encode", plan, size, sys::fumizhaki_encode, Plan::encode, wanted, message, block);
     }
 
     fn message_of(&mut self, plan: &Plan, code: Result<&Code, u8>, size: usize, block: &[u8], message: &[u8]) {
         let wanted = reference::message_of(code, block, message);
-        let lend = |message: &[u8]| (Lent::of(block, 1), Lent::of(message, 2));
-        let mut lent = lend(message);
-        let (b, m) = (lent.0.inner(), lent.1.inner());
-        let raw = unsafe { sys::fumizhaki_message_of(*plan, b.as_ptr(), b.len(), m.as_mut_ptr(), m.len()) };
-        let mut again = lend(message);
-        let safe = plan.message_of(again.0.inner(), again.1.inner()).map_or_else(Refusal::number, |()| 0);
+        self.written("message_of", plan, size, sys::fumizhaki_message_of, Plan::message_of, wanted, block, message);
+    }
+
+    // An entry that reads one buffer and writes another: by C and by the bindings, both buffers compared whole.
+    #[allow(clippy::too_many_arguments)]
+    fn written(&mut self, entry: &'static str, plan: &Plan, size: usize, c: Raw, rust: Safe, wanted: Left<Vec<u8>>, read: &[u8], write: &[u8]) {
+        let lend = |write: &[u8]| (Lent::of(read, 1), Lent::of(write, 2));
+        let mut lent = lend(write);
+        let (r, w) = (lent.0.inner(), lent.1.inner());
+        let raw = unsafe { c(*plan, r.as_ptr(), r.len(), w.as_mut_ptr(), w.len()) };
+        let mut again = lend(write);
+        let safe = rust(plan, again.0.inner(), again.1.inner()).map_or_else(Refusal::number, |()| 0);
         let after = lend(&wanted.written);
         let expected = (wanted.number, wanted.number, after.clone(), after);
-        self.hold("message_of", size, wanted.number, || format!("{}, block {block:?}", show(plan)), &(raw, safe, lent, again), &expected);
+        self.hold(entry, size, wanted.number, || format!("{}, read {read:?}", show(plan)), &(raw, safe, lent, again), &expected);
     }
 
     // ---- what is tried on a plan
