@@ -3,29 +3,28 @@
 use mathlib.Core.Path.{_≡_, refl, sym, _∙_, ap, subst}
 use mathlib.Core.Logic.{_⊎_, inl, inr, by-cases}
 use mathlib.Core.List.{List, Memᴰ·cast}
-use Prim.Native.Nat.{ℕ, zero, suc, _+_, _-_, _*_, _/_, _%_, _≤_, _<_}
+use Prim.Native.Nat.{ℕ, _+_, _-_, _*_, _/_, _%_, _≤_, _<_}
 use native.Mathlib.Decide.{decLt}
 use native.Mathlib.Nat.{mod-lt, div-lt-iff-lt-mul}
 use native.Mathlib.Omega.{arith}
-use lib.ListN.{length, getD, take, replicate, length-replicate}
-use lib.Seq.{length-take-le}
-use Rattle.math.specs.Members.{_∈_, isIn}
-use Rattle.math.specs.MembersLaws.{by-test, without-∈, rising-without}
+use lib.ListN.{length, getD, replicate, length-replicate, getD-replicate}
+use Rattle.math.specs.Members.{_∈_}
+use Rattle.math.specs.MembersLaws.{without-∈, rising-without}
 use Rattle.math.specs.Pigeonhole.{getD-∈, ∈-getD}
 use Rattle.math.specs.Xor.{_⊕_}
 use Rattle.plan.specs.Layout.{Layout, Valid, layout, top, bottom}
-use Rattle.code.specs.Codewords.{at, blank}
+use Rattle.code.specs.Codewords.{at}
 use Rattle.code.specs.Marks.{NoSpare, erasures}
 use Rattle.code.specs.Cycles.{Cycle, Lowest}
 use Rattle.code.specs.Components.{Connected}
 use Rattle.code.specs.Laws.Forest.{Erased, Forest, above}
-use Rattle.code.specs.Laws.Basics.{meets-row}
+use Rattle.code.specs.Laws.Basics.{meets-row, syndrome-zero}
 use Rattle.code.specs.Laws.Paths.{∈-above, erased-above, path}
 use Rattle.code.specs.Laws.CycleLaws.{cycle-length, forest-no-cycle}
 use Rattle.code.specs.Laws.MarksLaws.{erasures-erased}
-use Rattle.tables.specs.Picture.{Sized, codeOf, onRow, Picture, Stuck}
+use Rattle.tables.specs.Picture.{Sized, codeOf, onRow, Counted, Picture, Stuck}
 use Rattle.tables.specs.Sizes.{sized-valid, sized-∈}
-use Rattle.tables.specs.Scan.{fromPlace, in-from, from-in}
+use Rattle.tables.specs.Counting.{fromPlace, in-from, from-in}
 use Rattle.tables.specs.StuckLaws.{forest-sub, twos, met-two, cycle-survives, cycle-into, top-next, bottom-next, last-next}
 use Rattle.peel.specs.Peels.{Peelable, Peels, Peeled}
 use Rattle.math.specs.Padded.{padded}
@@ -41,11 +40,10 @@ pub record Closing (n t : ℕ) (shifts marks : List ℕ) (c : ℕ) : Type 0 wher
   pub connected : Connected (layout n t shifts) (above c (erasures (layout n t shifts) marks)) (top (layout n t shifts) c) (bottom (layout n t shifts) c)
 
 -- the work tables have an entry for each row
-pub record Room (t : ℕ) (sum left code queue place value : List ℕ) : Type 0 where
+pub record Room (t : ℕ) (sum left code place value : List ℕ) : Type 0 where
   pub sum-long : length sum ≡ 2 * t
   pub left-long : length left ≡ 2 * t
   pub code-long : length code ≡ 2 * t
-  pub queue-long : length queue ≡ 2 * t
   pub place-long : length place ≡ 2 * t
   pub value-long : length value ≡ 2 * t
 
@@ -84,20 +82,6 @@ cycle-above cy c m = let k = ∈-getD m in omega (arith, cy .lowest (k .0) (k .1
 cycle-first : {L : Layout} {E l : List ℕ} → Cycle L E l → at l 0 ∈ l
 cycle-first {l = l} cy = getD-∈ l (omega (arith, cy .even, cy .least))
 
-blank-zero : (E : List ℕ) (v : ℕ → ℕ) → ((c : ℕ) → v c ≡ 0) → (c : ℕ) → blank E v c ≡ 0
-unfolding blank
-blank-zero E v z c = by-test (isIn c E) (λ e. rw e) (λ e. rw e (z c))
-
--- a part of a list of zeros
-pub zeros-long : (m k : ℕ) → m ≤ k → m ≡ length (take m (replicate {A = ℕ} k 0))
-zeros-long m k h = sym (length-take-le m (replicate k 0) (omega (arith, length-replicate {A = ℕ} k 0)))
-
-pub zeros-at : (m k d : ℕ) → getD (take m (replicate {A = ℕ} k 0)) d 0 ≡ 0
-zeros-at zero k d = refl
-zeros-at (suc m) zero d = refl
-zeros-at (suc m) (suc k) zero = refl
-zeros-at (suc m) (suc k) (suc d) = zeros-at m k d
-
 packed-code : (t c : ℕ) → c / t * 2048 + c % t ≡ codeOf t c
 unfolding codeOf
 packed-code t c = refl
@@ -115,38 +99,48 @@ module _ (L : Layout) (ok : Valid L) {E : List ℕ} {c : ℕ} (er : Erased L E) 
     -- each row that a place of F meets has two
     two-on : (d : ℕ) {r : ℕ} → d ∈ F → (r ≡ top L d) ⊎ (r ≡ bottom L d) → length (onRow L F r) ≡ 2
     two-on d {r} m on = met-two L m on
-        (twos L ok (pic .erased .rising) (Memᴰ·cast (sym e) (cycle-member cy (at l 0) (cycle-first cy)))
-        (forest-sub L ok (erased-above c er .rising) (rising-without c (pic .erased .rising))
+        (twos L ok (pic .counted .erased .rising) (Memᴰ·cast (sym e) (cycle-member cy (at l 0) (cycle-first cy)))
+        (forest-sub L ok (erased-above c er .rising) (rising-without c (pic .counted .erased .rising))
         (λ d i. let k = without-∈ c F i in let j = from-in c E (sub d (k .0)) in ∈-above (j .0) (omega (arith, k .1, j .1))) fo)
         st r (meets-row L ok d on))
 
     row-top : (i : ℕ) → i < cy .half → getD code (top L (at l (2 * i))) 0 ≡ codeOf (L .t) (at l (2 * i)) ⊕ codeOf (L .t) (at l (2 * i + 1))
     row-top i h =
-        pic .codes (top L (at l (2 * i))) (meets-row L ok (at l (2 * i)) (inl refl))
-        ∙ top-next (pic .erased .rising) cy i h (two-on (at l (2 * i)) (cy .inside (2 * i) (omega (arith, cy .even))) (inl refl)) (codeOf (L .t))
+        pic .counted .codes (top L (at l (2 * i))) (meets-row L ok (at l (2 * i)) (inl refl))
+        ∙ top-next (pic .counted .erased .rising) cy i h (two-on (at l (2 * i)) (cy .inside (2 * i) (omega (arith, cy .even))) (inl refl)) (codeOf (L .t))
 
     row-bottom : (i : ℕ) → i + 1 < cy .half → getD code (bottom L (at l (2 * i + 1))) 0 ≡ codeOf (L .t) (at l (2 * i + 1)) ⊕ codeOf (L .t) (at l (2 * i + 2))
     row-bottom i h =
-        pic .codes (bottom L (at l (2 * i + 1))) (meets-row L ok (at l (2 * i + 1)) (inr refl))
-        ∙ bottom-next (pic .erased .rising) cy i h (two-on (at l (2 * i + 1)) (cy .inside (2 * i + 1) (omega (arith, cy .even))) (inr refl)) (codeOf (L .t))
+        pic .counted .codes (bottom L (at l (2 * i + 1))) (meets-row L ok (at l (2 * i + 1)) (inr refl))
+        ∙ bottom-next (pic .counted .erased .rising) cy i h (two-on (at l (2 * i + 1)) (cy .inside (2 * i + 1) (omega (arith, cy .even))) (inr refl)) (codeOf (L .t))
 
     row-last : getD code (bottom L (at l (length l - 1))) 0 ≡ codeOf (L .t) (at l (length l - 1)) ⊕ codeOf (L .t) (at l 0)
     row-last =
-        pic .codes (bottom L (at l (length l - 1))) (meets-row L ok (at l (length l - 1)) (inr refl))
-        ∙ last-next (pic .erased .rising) cy (two-on (at l (length l - 1)) (cy .inside (length l - 1) (omega (arith, cy .even, cy .least))) (inr refl)) (codeOf (L .t))
+        pic .counted .codes (bottom L (at l (length l - 1))) (meets-row L ok (at l (length l - 1)) (inr refl))
+        ∙ last-next (pic .counted .erased .rising) cy (two-on (at l (length l - 1)) (cy .inside (length l - 1) (omega (arith, cy .even, cy .least))) (inr refl)) (codeOf (L .t))
 
 module _ {n t : ℕ} {shifts marks : List ℕ} {c : ℕ} (p : Closing n t shifts marks c) where
-  pub begun : {sum left code : List ℕ} (block : List ℕ) → ((d : ℕ) → getD block d 0 ≡ 0)
-      → Picture (layout n t shifts) (fromPlace c (erasures (layout n t shifts) marks)) (blank (fromPlace c (erasures (layout n t shifts) marks)) (λ d. getD block d 0)) sum left code
-      → Begun n t shifts marks c sum left code
-  begun block z pic = record { u = _; zeros = blank-zero (fromPlace c (erasures (layout n t shifts) marks)) (λ d. getD block d 0) z; picture = pic }
+  pub begun : {sum left code : List ℕ} → sum ≡ replicate (2 * t) 0
+      → Counted (layout n t shifts) (fromPlace c (erasures (layout n t shifts) marks)) left code → Begun n t shifts marks c sum left code
+  unfolding layout
+  begun e counted =
+      record {
+        u = λ d. 0;
+        zeros = λ d. refl;
+        picture = record {
+          sum-long = ap length e ∙ length-replicate (2 * t) 0;
+          byte = λ d. omega arith;
+          sums = λ r h. ap (λ l. getD l r 0) e ∙ getD-replicate (2 * t) r 0 0 h ∙ sym (syndrome-zero (layout n t shifts) r);
+          counted = counted;
+        };
+      }
 
   pub stripped : {sum left code sum' left' code' place value : List ℕ} {r : ℕ} → Begun n t shifts marks c sum left code
       → Peels (layout n t shifts) sum left code sum' left' code' place value r → Stripped n t shifts marks c code'
   unfolding layout
   stripped {sum' = sum'} {left' = left'} {code' = code'} {place = place} {value = value} {r = r} b peels =
       record {
-        long = q .picture .code-long;
+        long = q .picture .counted .code-long;
         cycle = l;
         is-cycle = w .is-cycle;
         first = w .first;
@@ -155,7 +149,7 @@ module _ {n t : ℕ} {shifts marks : List ℕ} {c : ℕ} (p : Closing n t shifts
           even = cy .even;
           least = cy .least;
           short = cycle-length L ok F l cy;
-          inside = λ i h. sized-∈ (p .sized) (q .picture .erased .inside (at l i) (cy .inside i h));
+          inside = λ i h. sized-∈ (p .sized) (q .picture .counted .erased .inside (at l i) (cy .inside i h));
           once = λ i h e. cy .distinct i 0 h (omega (arith, cy .even, cy .least)) e;
           start = ap (codeOf t) (sym (w .first));
           tops = row-top L ok er (p .forest) (q .picture) (q .settles .fewer) (q .stuck) cy (w .first);
@@ -192,7 +186,7 @@ module _ {n t : ℕ} {shifts marks : List ℕ} {c : ℕ} (p : Closing n t shifts
       inner = cycle-into (w .is-cycle) (λ d m. in-from (cycle-member (w .is-cycle) d m) (omega (arith, cycle-above (w .is-cycle) d m, w .first)))
 
       cy : Cycle L F l
-      cy = cycle-into inner (cycle-survives L ok (q .settles) (b .zeros) (b .picture .erased) inner)
+      cy = cycle-into inner (cycle-survives L ok (q .settles) (b .zeros) (b .picture .counted .erased) inner)
 
   pub closing-inside : c < n * t
   closing-inside = sized-∈ (p .sized) (erasures-erased (layout n t shifts) marks .inside c (p .member))

@@ -6,8 +6,9 @@ ghost use Rattle.cycle.specs.Shows.{Closing, Room, Begun, Stripped, Show
 use crate::walk::walk;
 use peel::peel;
 use plan::Place;
+use tables::count;
+use tables::marks::clear_bytes;
 use tables::packed::pack;
-use tables::picture;
 
 pub mod walk;
 
@@ -19,26 +20,15 @@ fn picture_from(
     marks: &[u8],
     c: Place,
     sum: &mut [u8],
-    left: &mut [u16],
+    left: &mut [u8],
     code: &mut [u16],
 )
     requires { ⌜ Closing n t (now shifts) (now marks) (c .0) ⌝ }
     requires { ⌜ (length (now sum) ≡ 2 * t) × (length (now left) ≡ 2 * t) × (length (now code) ≡ 2 * t) ⌝ }
     ensures { λ _. ⌜ Begun n t (now (shifts .entry)) (now (marks .entry)) (c .0) (now (sum .exit)) (now (left .exit)) (now (code .exit)) ⌝ }
 {
-    let zeros = [0u8; 32768];
-    let places = n * t;
-    picture(
-        n,
-        t,
-        shifts,
-        &zeros[..places],
-        marks,
-        c,
-        &mut sum[..],
-        &mut left[..],
-        &mut code[..],
-    );
+    clear_bytes(&mut sum[..]);
+    count(n, t, shifts, marks, c, &mut left[..], &mut code[..]);
 }
 
 // Peels the erasures from c on: each row that is left has two of them or none.
@@ -49,14 +39,14 @@ fn strip(
     marks: &[u8],
     c: Place,
     sum: &mut [u8],
-    left: &mut [u16],
+    left: &mut [u8],
     code: &mut [u16],
     queue: &mut [u16],
     place: &mut [u16],
     value: &mut [u8],
 )
     requires { ⌜ Closing n t (now shifts) (now marks) (c .0) ⌝ }
-    requires { ⌜ Room t (now sum) (now left) (now code) (now queue) (now place) (now value) ⌝ }
+    requires { ⌜ Room t (now sum) (now left) (now code) (now place) (now value) × (length (now queue) ≡ 2 * t) ⌝ }
     ensures { λ _. ⌜ Stripped n t (now (shifts .entry)) (now (marks .entry)) (c .0) (now (code .exit)) ⌝ }
 {
     picture_from(
@@ -82,7 +72,7 @@ fn strip(
     );
 }
 
-// Writes the cycle whose lowest place is c, the highest that closes one, and zeros after it; gives its length.
+// Writes the cycle whose lowest place is c, the highest that closes one, and zeros after it; gives its length. Before that the witness list is the queue.
 pub fn show(
     n: usize,
     t: usize,
@@ -90,15 +80,14 @@ pub fn show(
     marks: &[u8],
     c: Place,
     sum: &mut [u8],
-    left: &mut [u16],
+    left: &mut [u8],
     code: &mut [u16],
-    queue: &mut [u16],
     place: &mut [u16],
     value: &mut [u8],
     witness: &mut [u16],
 ) -> usize
     requires { ⌜ Closing n t (now shifts) (now marks) (c .0) ⌝ }
-    requires { ⌜ Room t (now sum) (now left) (now code) (now queue) (now place) (now value) ⌝ }
+    requires { ⌜ Room t (now sum) (now left) (now code) (now place) (now value) ⌝ }
     requires { ⌜ length (now witness) ≡ 2 * t ⌝ }
     ensures { λ r. ⌜ Showing n t (now (shifts .entry)) (now (marks .entry)) (c .0) (now (witness .exit)) r ⌝ }
 {
@@ -111,7 +100,7 @@ pub fn show(
         &mut sum[..],
         &mut left[..],
         &mut code[..],
-        &mut queue[..],
+        &mut witness[..],
         &mut place[..],
         &mut value[..],
     );

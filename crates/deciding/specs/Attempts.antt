@@ -2,13 +2,12 @@
 -- tried-explains (otherwise the refusal is explained: if the erasures are a forest, no codeword agrees), call-given, call-decided (the call).
 use mathlib.Core.Path.{_≡_, refl, sym, _∙_, ap}
 use mathlib.Core.Logic.{inl, by-cases}
-use mathlib.Core.Bool.{Bool, true, false, true≢false}
-use mathlib.Core.List.{List, [], _∷_, _++_, List·Memᴰ·not-nil, Memᴰ·cast}
-use Prim.Native.Nat.{ℕ, zero, suc, _*_, _/_, _%_, _^_, _≤_, _<_}
-use native.Mathlib.Nat.{zero-div}
+use mathlib.Core.Bool.{true, false, true≢false}
+use mathlib.Core.List.{List, [], List·Memᴰ·not-nil, Memᴰ·cast}
+use Prim.Native.Nat.{ℕ, _*_, _≤_, _<_}
 use native.Mathlib.Omega.{arith}
-use lib.ListN.{length, getD, take, replicate, length-append, length-replicate}
-use lib.Seq.{ext-getD, take-at, length-take-le}
+use lib.ListN.{length, getD, take, replicate, length-replicate}
+use lib.Seq.{ext-getD, length-take-le}
 use Rattle.math.specs.Members.{_∈_}
 use Rattle.math.specs.MembersLaws.{decIn}
 use Rattle.plan.specs.Layout.{Layout, Valid, layout, top}
@@ -16,20 +15,20 @@ use Rattle.plan.specs.Plans.{layoutOf}
 use Rattle.plan.specs.PlanLaws.{good-bounds}
 use Rattle.plan.specs.declared.Plan.{Plan}
 use Rattle.code.specs.Places.{places}
-use Rattle.code.specs.Codewords.{at, bitOf, blank, Agrees, None}
-use Rattle.code.specs.Marks.{mark, markBytes, erasures}
+use Rattle.code.specs.Codewords.{at, Agrees, None}
+use Rattle.code.specs.Marks.{markBytes, erasures}
 use Rattle.code.specs.Laws.Forest.{Erased, Forest}
 use Rattle.code.specs.Laws.Basics.{places-∈, meets-row, syndrome-ext}
-use Rattle.code.specs.Laws.Settle.{blank-out}
-use Rattle.code.specs.Laws.MarksLaws.{in-erasures, erasures-erased}
-use Rattle.tables.specs.Picture.{Picture}
+use Rattle.code.specs.Laws.MarksLaws.{erasures-erased}
+use Rattle.tables.specs.Picture.{Counted, Picture}
 use Rattle.tables.specs.Sizes.{sized-valid, ∈-sized}
-use Rattle.tables.specs.Scan.{fromPlace, from-zero}
+use Rattle.tables.specs.Counting.{fromPlace, from-zero}
+use Rattle.tables.specs.Scan.{Lent}
 use Rattle.tables.specs.SumLaws.{Syndromes}
 use Rattle.cycle.specs.Shows.{Room}
 use Rattle.tables.specs.StuckLaws.{onRow-some, length-onRow-le, stuck-none}
 use Rattle.peel.specs.Peels.{Peelable, Peeled, Peels}
-use Rattle.peel.specs.Fill.{filled, Fillable, filled-long, filled-out, filled-at, allZero, allZero-at, cleanOf, clean-zero, zero-clean}
+use Rattle.settling.specs.Fill.{filled, Fillable, filled-long, filled-out, filled-at, cleanOf, clean-zero, zero-clean}
 use Rattle.calls.specs.Calls.{checkOf}
 use Rattle.calls.specs.CallsLaws.{pass-good, pass-spare}
 use Rattle.calls.specs.declared.Check.the-variants.{Pass}
@@ -37,69 +36,52 @@ use Rattle.promises.specs.Promises.{Decides, Recovers, recoverLent}
 use Rattle.promises.specs.Building.{decides-recovered, recovers-passed, recover-lengths}
 use Rattle.promises.specs.declared.Recovery.{Recovery}
 use Rattle.promises.specs.declared.Recovery.the-variants.{Recovered}
-use Rattle.deciding.specs.Explains.{Marked, Explains}
+use Rattle.tables.specs.Zeros.{Zeros, zeros, zeros-part}
+use Rattle.whole.specs.Whole.{Summed}
+use Rattle.explaining.specs.Explains.{Explains}
 
 -- what a call that is not refused is lent
 pub record Given (n t : ℕ) (shifts block marks witness : List ℕ) : Type 0 where
-  pub marked : Marked n t shifts marks
+  pub marked : Lent n t shifts marks
   pub block-long : length block ≡ n * t
   pub witness-long : length witness ≡ 2 * t
 
--- a table of zeros with room for an entry for each row
-pub record Zeros (t : ℕ) (table : List ℕ) : Type 0 where
-  pub size : ℕ
-  pub zeros : table ≡ replicate size 0
-  pub room : 2 * t ≤ size
-
--- the table begins with the block's row sums
-pub record Summed (n t : ℕ) (shifts block sum : List ℕ) : Type 0 where
-  pub room : 2 * t ≤ length sum
-  pub sums : Syndromes n t shifts block (take (2 * t) sum)
-
--- where the answer is yes, the block is recovered as it stands
-pub record Intact (n t : ℕ) (shifts block marks : List ℕ) (r : Bool) : Type 0 where
-  pub decides : {a : Recovery} {w' : List ℕ} → r ≡ true → (a ≡ Recovered) × (w' ≡ replicate (2 * t) 0)
-      → Decides (layout n t shifts) (erasures (layout n t shifts) marks) block a block w'
-
 -- tables with room for an entry for each row: the sums, zeros, and any
-pub record Cut (n t : ℕ) (shifts block sum left code queue place value : List ℕ) : Type 0 where
+pub record Cut (n t : ℕ) (shifts block sum left code place value : List ℕ) : Type 0 where
   pub summed : Summed n t shifts block sum
-  pub left-zeros : Zeros t left
-  pub code-zeros : Zeros t code
-  pub queue-room : 2 * t ≤ length queue
+  pub left-zeros : Zeros (2 * t) left
+  pub code-zeros : Zeros (2 * t) code
   pub place-room : 2 * t ≤ length place
   pub value-room : 2 * t ≤ length value
 
 -- the same with no entry more
-pub record Tables (n t : ℕ) (shifts block sum left code queue place value : List ℕ) : Type 0 where
+pub record Tables (n t : ℕ) (shifts block sum left code place value : List ℕ) : Type 0 where
   pub sums : Syndromes n t shifts block sum
   pub left-zeros : left ≡ replicate (2 * t) 0
   pub code-zeros : code ≡ replicate (2 * t) 0
-  pub queue-long : length queue ≡ 2 * t
   pub place-long : length place ≡ 2 * t
   pub value-long : length value ≡ 2 * t
 
 -- the tables picture the block with its erasures
 pub record Begun (n t : ℕ) (shifts block marks sum left code : List ℕ) : Type 0 where
   pub symbols : (c : ℕ) → at block c < 256
-  pub picture : Picture (layout n t shifts) (erasures (layout n t shifts) marks) (blank (erasures (layout n t shifts) marks) (at block)) sum left code
+  pub picture : Picture (layout n t shifts) (erasures (layout n t shifts) marks) (at block) sum left code
 
 -- the tables begun are peeled, the k places and values being the ones settled
-pub record Tried (n t : ℕ) (shifts block marks sum left code queue place value : List ℕ) (k : ℕ) : Type 0 where
+pub record Tried (n t : ℕ) (shifts block marks sum left code place value : List ℕ) (k : ℕ) : Type 0 where
   pub sum₀ : List ℕ
   pub left₀ : List ℕ
   pub code₀ : List ℕ
   pub begun : Begun n t shifts block marks sum₀ left₀ code₀
   pub peels : Peels (layout n t shifts) sum₀ left₀ code₀ sum left code place value k
-  pub queue-long : length queue ≡ 2 * t
 
 -- ---- a block v with erasures E, peeled
 
 module _ (L : Layout) (ok : Valid L) (E v : List ℕ) {sum left code place value : List ℕ} {k : ℕ}
-    (er : Erased L E) (whole : length v ≡ L .n * L .t) (p : Peeled L E (blank E (at v)) sum left code place value k) where
+    (er : Erased L E) (whole : length v ≡ L .n * L .t) (p : Peeled L E (at v) sum left code place value k) where
   -- a codeword that agrees is what peeling found, wherever nothing is left
   agrees-found : (w : List ℕ) → Agrees L E v w → (c : ℕ) → c ∈ places L → ¬ (c ∈ p .F) → at w c ≡ p .x c
-  agrees-found w a = p .settles .forced (at w) (a .codeword .sums) (λ c m out. a .unmarked c (places-∈ L m .0) out ∙ sym (blank-out (at v) out))
+  agrees-found w a = p .settles .forced (at w) (a .codeword .sums) (λ c m out. a .unmarked c (places-∈ L m .0) out)
 
   settled-in : (i : ℕ) → i < k → getD place i 0 < length v
   settled-in i h = let m = places-∈ L (er .inside (getD place i 0) (p .settles .settled i h .0)) .0 in omega arith
@@ -111,12 +93,12 @@ module _ (L : Layout) (ok : Valid L) (E v : List ℕ) {sum left code place value
   module _ (clean : cleanOf sum left ≡ true) where
     none-left : (c : ℕ) → ¬ (c ∈ p .F)
     none-left c m =
-        omega (arith, onRow-some L m (inl refl), p .picture .lefts (top L c) (meets-row L ok c (inl refl)), clean-zero sum left clean (top L c) .1)
+        omega (arith, onRow-some L m (inl refl), p .picture .counted .lefts (top L c) (meets-row L ok c (inl refl)), clean-zero sum left clean (top L c) .1)
 
     filled-found : (c : ℕ) → at (filled v place value k) c ≡ p .x c
     filled-found c = by-cases (decIn c E)
-        (λ m. filled-at v place value (p .x) k settled-in (λ i h. p .settles .settled i h .2) (p .settles .listed c m (none-left c)))
-        (λ out. filled-same c out ∙ sym (p .settles .kept c out ∙ blank-out (at v) out))
+        (λ m. filled-at v place value (p .x) k settled-in (p .settles .once) (λ i h. p .settles .settled i h .2) (p .settles .listed c m (none-left c)))
+        (λ out. filled-same c out ∙ sym (p .settles .kept c out))
 
     filled-agrees : Agrees L E v (filled v place value k)
     filled-agrees = record {
@@ -136,118 +118,67 @@ module _ (L : Layout) (ok : Valid L) (E v : List ℕ) {sum left code place value
   -- a forest peels whole, so an agreeing codeword would leave no sum
   forest-none : cleanOf sum left ≡ false → Forest L E → None (Agrees L E v)
   forest-none dirty f w a =
-      let empty : p .F ≡ [] = stuck-none L ok (er .rising) f (p .picture .erased .rising) (p .settles .fewer) (p .stuck) in
+      let empty : p .F ≡ [] = stuck-none L ok (er .rising) f (p .picture .counted .erased .rising) (p .settles .fewer) (p .stuck) in
       let out : (c : ℕ) → ¬ (c ∈ p .F) = λ c m. List·Memᴰ·not-nil (rw empty at m) in
       true≢false (sym (zero-clean sum left
       (λ r h. let s : r < 2 * L .t = omega (arith, p .picture .sum-long) in
       p .picture .sums r s ∙ syndrome-ext L (p .x) (at w) r (λ c m. sym (agrees-found w a c m (out c))) ∙ a .codeword .sums r s)
       (λ r h. let e : length (p .F) ≡ 0 = ap length empty in
-      omega (arith, p .picture .lefts r (omega (arith, p .picture .left-long)), length-onRow-le L (p .F) r))) ∙ dirty)
+      omega (arith, p .picture .counted .lefts r (omega (arith, p .picture .counted .left-long)), length-onRow-le L (p .F) r))) ∙ dirty)
 
 -- ---- the tables
 
--- the first m entries of a table
-pub front-long : (m : ℕ) (l : List ℕ) → m ≤ length l → m ≡ length (take m l)
-front-long m l h = sym (length-take-le m l h)
-
-zeros-front : (m k : ℕ) → m ≤ k → take m (replicate {A = ℕ} k 0) ≡ replicate m 0
-zeros-front zero k h = refl
-zeros-front (suc m) zero h = absurd (omega arith)
-zeros-front (suc m) (suc k) h = ap (λ l. 0 ∷ l) (zeros-front m k (omega arith))
-
-module _ {t : ℕ} {table : List ℕ} (z : Zeros t table) where
-  pub zeros-room : 2 * t ≤ length table
-  zeros-room = omega (arith, z .room, ap length (z .zeros), length-replicate {A = ℕ} (z .size) 0)
-
-  pub zeros-part : take (2 * t) table ≡ replicate (2 * t) 0
-  zeros-part = ap (take (2 * t)) (z .zeros) ∙ zeros-front (2 * t) (z .size) (z .room)
-
-pub zeros : {t : ℕ} (k : ℕ) → 2 * t ≤ k → Zeros t (replicate k 0)
-zeros k h = record { size = k; zeros = refl; room = h }
-
--- the sums come back at the front of their table
-module _ {n t : ℕ} {shifts block sum : List ℕ} (s : Syndromes n t shifts block sum) (rest : List ℕ) where
-  pub sums-same : take (2 * t) (sum ++ rest) ≡ sum
-  sums-same = take-at sum rest (2 * t) (s .long)
-
-  pub summed : Summed n t shifts block (sum ++ rest)
-  summed = record { room = omega (arith, length-append sum rest, s .long); sums = rw sums-same s }
-
 -- arrays of k zeros beside the sums
 pub cut-arrays : {n t : ℕ} {shifts block sum : List ℕ} (k : ℕ) → 2 * t ≤ k → Summed n t shifts block sum
-    → Cut n t shifts block sum (replicate k 0) (replicate k 0) (replicate k 0) (replicate k 0) (replicate k 0)
+    → Cut n t shifts block sum (replicate k 0) (replicate k 0) (replicate k 0) (replicate k 0)
 cut-arrays {t = t} k h s =
     let room : 2 * t ≤ length (replicate {A = ℕ} k 0) = omega (arith, length-replicate {A = ℕ} k 0) in
-    record { summed = s; left-zeros = zeros k h; code-zeros = zeros k h; queue-room = room; place-room = room; value-room = room }
+    record { summed = s; left-zeros = zeros k h; code-zeros = zeros k h; place-room = room; value-room = room }
 
-pub cut-tables : {n t : ℕ} {shifts block sum left code queue place value : List ℕ} → Cut n t shifts block sum left code queue place value
-    → Tables n t shifts block (take (2 * t) sum) (take (2 * t) left) (take (2 * t) code) (take (2 * t) queue) (take (2 * t) place) (take (2 * t) value)
-cut-tables {t = t} {queue = queue} {place = place} {value = value} c = record {
+pub cut-tables : {n t : ℕ} {shifts block sum left code place value : List ℕ} → Cut n t shifts block sum left code place value
+    → Tables n t shifts block (take (2 * t) sum) (take (2 * t) left) (take (2 * t) code) (take (2 * t) place) (take (2 * t) value)
+cut-tables {t = t} {place = place} {value = value} c = record {
   sums = c .summed .sums;
   left-zeros = zeros-part (c .left-zeros);
   code-zeros = zeros-part (c .code-zeros);
-  queue-long = length-take-le (2 * t) queue (c .queue-room);
   place-long = length-take-le (2 * t) place (c .place-room);
   value-long = length-take-le (2 * t) value (c .value-room);
 }
 
--- ---- no erasures
-
-pub not-intact : {n t : ℕ} {shifts block marks : List ℕ} {r : Bool} → r ≡ false → Intact n t shifts block marks r
-not-intact e = record { decides = λ f g. absurd (true≢false (sym f ∙ e)) }
-
--- the bytes of the marks are 0, so no place is marked
-none-erased : (L : Layout) (marks : List ℕ) → cleanOf marks [] ≡ true → (c : ℕ) → ¬ (c ∈ erasures L marks)
-unfolding mark bitOf
-none-erased L marks z c i =
-    let e : getD marks (c / 8) 0 / 2 ^ (c % 8) % 2 ≡ 1 = in-erasures L marks c .0 i .1 in
-    let f : 0 / 2 ^ (c % 8) % 2 ≡ 1 = rw (clean-zero marks [] z (c / 8) .0) at e in
-    omega (arith, zero-div (2 ^ (c % 8)))
-
-module _ {n t : ℕ} {shifts block marks : List ℕ} (m : Marked n t shifts marks) (long : length block ≡ n * t) (byte : (c : ℕ) → at block c < 256) where
-  pub intact : {sum list : List ℕ} {r : Bool} → cleanOf marks [] ≡ true → Syndromes n t shifts block sum → list ≡ sum → r ≡ cleanOf list []
-      → Intact n t shifts block marks r
-  unfolding layout
-  intact {sum} z s same e =
-      let L = layout n t shifts in
-      record {
-        decides = λ f q.
-            let zero : cleanOf sum [] ≡ true = ap (λ l. cleanOf l []) (sym same) ∙ sym e ∙ f in
-            rw (q .0) (decides-recovered (record {
-              codeword = record { whole = long; symbols = byte; sums = λ r h. sym (s .each r h) ∙ clean-zero sum [] zero r .0 };
-              unmarked = λ c h out. refl;
-            })
-            (λ x a. ext-getD 0 x block (a .codeword .whole ∙ sym long)
-            (λ c h. a .unmarked c (rw (a .codeword .whole) at h) (none-erased L marks z c)))
-            (q .1));
-      }
-
 -- ---- the attempt
 
--- what the tables picture once the erasures are taken out of the sums
-pub begins : {n t : ℕ} {shifts block marks sum left code : List ℕ} → ((c : ℕ) → at block c < 256)
-    → Picture (layout n t shifts) (fromPlace 0 (erasures (layout n t shifts) marks)) (blank (fromPlace 0 (erasures (layout n t shifts) marks)) (at block)) sum left code
-    → Begun n t shifts block marks sum left code
-begins {n} {t} {shifts} {marks = marks} byte p = record { symbols = byte; picture = rw (from-zero (erasures (layout n t shifts) marks)) at p }
+-- what the tables picture once the erasures are counted
+pub begins : {n t : ℕ} {shifts block marks sum left code : List ℕ} → ((c : ℕ) → at block c < 256) → Syndromes n t shifts block sum
+    → Counted (layout n t shifts) (fromPlace 0 (erasures (layout n t shifts) marks)) left code → Begun n t shifts block marks sum left code
+unfolding layout
+begins {n} {t} {shifts} {marks = marks} byte s p = record {
+  symbols = byte;
+  picture = record { sum-long = s .long; byte = byte; sums = s .each; counted = rw (from-zero (erasures (layout n t shifts) marks)) at p };
+}
 
-module _ {n t : ℕ} {shifts block marks witness sum left code queue place value sum₀ left₀ code₀ : List ℕ} (g : Given n t shifts block marks witness)
-    (b : Tables n t shifts block sum₀ left₀ code₀ queue place value) (s : Begun n t shifts block marks sum left code) where
-  pub attempt-peels : Peelable n t shifts sum left code queue place value
+module _ {n t : ℕ} {shifts block marks witness sum left code place value left₀ code₀ : List ℕ} (g : Given n t shifts block marks witness)
+    (b : Tables n t shifts block sum left₀ code₀ place value) (s : Begun n t shifts block marks sum left code) where
+  pub attempt-peels : Peelable n t shifts sum left code witness place value
   attempt-peels = record {
     sized = g .marked .sized;
     pictured = record { E = _; u = _; picture = s .picture };
-    queue-long = b .queue-long;
+    queue-long = g .witness-long;
     place-long = b .place-long;
     value-long = b .value-long;
   }
 
-  pub attempt-tried : {sum' left' code' queue' place' value' : List ℕ} {k : ℕ} → Peels (layout n t shifts) sum left code sum' left' code' place' value' k
-      → length queue' ≡ length queue → Tried n t shifts block marks sum' left' code' queue' place' value' k
-  attempt-tried q e = record { sum₀ = _; left₀ = _; code₀ = _; begun = s; peels = q; queue-long = e ∙ b .queue-long }
+  pub attempt-tried : {sum' left' code' place' value' : List ℕ} {k : ℕ} → Peels (layout n t shifts) sum left code sum' left' code' place' value' k
+      → Tried n t shifts block marks sum' left' code' place' value' k
+  attempt-tried q = record { sum₀ = _; left₀ = _; code₀ = _; begun = s; peels = q }
 
-module _ {n t : ℕ} {shifts block marks witness sum left code place value queue : List ℕ} {k : ℕ} (g : Given n t shifts block marks witness)
-    (d : Tried n t shifts block marks sum left code queue place value k) where
-  peeled : Peeled (layout n t shifts) (erasures (layout n t shifts) marks) (blank (erasures (layout n t shifts) marks) (at block)) sum left code place value k
+-- the witness list has served as the queue
+pub given-after : {n t : ℕ} {shifts block marks witness witness' : List ℕ} → Given n t shifts block marks witness → length witness' ≡ length witness
+    → Given n t shifts block marks witness'
+given-after g e = record { marked = g .marked; block-long = g .block-long; witness-long = e ∙ g .witness-long }
+
+module _ {n t : ℕ} {shifts block marks witness sum left code place value : List ℕ} {k : ℕ} (g : Given n t shifts block marks witness)
+    (d : Tried n t shifts block marks sum left code place value k) where
+  peeled : Peeled (layout n t shifts) (erasures (layout n t shifts) marks) (at block) sum left code place value k
   peeled = d .peels .peeled _ _ (d .begun .picture)
 
   pub tried-fills : Fillable block place value k
@@ -271,13 +202,12 @@ module _ {n t : ℕ} {shifts block marks witness sum left code place value queue
       (filled-only L ok E block er (g .block-long) peeled clean (λ c. ∈-sized (g .marked .sized)))
       (q .1 ∙ ap (λ i. replicate i 0) (g .witness-long)))
 
-  pub tried-room : Room t sum left code queue place value
+  pub tried-room : Room t sum left code place value
   unfolding layout
   tried-room = record {
     sum-long = peeled .picture .sum-long;
-    left-long = peeled .picture .left-long;
-    code-long = peeled .picture .code-long;
-    queue-long = d .queue-long;
+    left-long = peeled .picture .counted .left-long;
+    code-long = peeled .picture .counted .code-long;
     place-long = d .peels .place-long;
     value-long = d .peels .value-long;
   }
@@ -288,7 +218,7 @@ module _ {n t : ℕ} {shifts block marks witness sum left code place value queue
   unfolding layout
   tried-explains dirty x =
       x .decides block (peeled .x) (g .block-long) (d .begun .symbols)
-      (λ c m out. peeled .settles .kept c out ∙ blank-out (at block) out) (peeled .picture .sums)
+      (λ c m out. peeled .settles .kept c out) (peeled .picture .sums)
       (forest-none (layout n t shifts) (sized-valid (g .marked .sized)) (erasures (layout n t shifts) marks) block
       (erasures-erased (layout n t shifts) marks) (g .block-long) peeled dirty)
 

@@ -1,3 +1,2 @@
--- What recover goes by: why a block is refused, and what an attempt by peeling shows.
-pub mod Explains
+-- What recover goes by: what an attempt by peeling shows.
 pub mod Attempts

@@ -1,3 +1,2 @@
--- The laws behind filling the parity places.
-pub mod Zeros
+-- The parity places settled.
 pub mod Settling

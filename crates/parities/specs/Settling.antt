@@ -1,10 +1,11 @@
 -- Sealing: the parity places are a forest, so peeling settles them all, and the block becomes the codeword that carries the message.
--- Main results: parity-picture, peelable, fillable, settled, sealed.
+-- Main results: section-due and section-noted (the parity places counted), peelable, fillable, settled, sealed.
 use mathlib.Core.Path.{_≡_, sym, _∙_, ap, subst}
-use mathlib.Core.Logic.{⊎-elim, by-cases}
+use mathlib.Core.Logic.{_↔_, ⊎-elim, by-cases}
 use mathlib.Core.List.{List, [], map, List·Memᴰ·head as first, List·Memᴰ·tail as later, List·Memᴰ·not-nil, Memᴰ·cast}
-use Prim.Native.Nat.{ℕ, _+_, _*_, _/_, _≤_, _<_}
-use native.Mathlib.Nat.{mul-le-mul}
+use Prim.Native.Nat.{ℕ, _+_, _-_, _*_, _/_, _≤_, _<_}
+use native.Mathlib.Nat.{suc-mul, mul-le-mul-right}
+use native.Mathlib.Numerals.{add-one}
 use native.Mathlib.Omega.{arith}
 use lib.ListN.{length, getD, take, drop, replicate, length-replicate}
 use lib.Seq.{ext-getD, length-take-le}
@@ -12,22 +13,23 @@ use Rattle.math.specs.Members.{_∈_}
 use Rattle.math.specs.MembersLaws.{decIn}
 use Rattle.plan.specs.Layout.{Layout, Valid, layout, messageCount}
 use Rattle.code.specs.Places.{places}
-use Rattle.code.specs.Codewords.{at, Agrees, blank}
+use Rattle.code.specs.Codewords.{at, Agrees}
 use Rattle.code.specs.Messages.{Carries}
-use Rattle.code.specs.Marks.{markBytes, erasures}
 use Rattle.code.specs.Laws.Basics.{places-∈}
-use Rattle.code.specs.Laws.Balance.{blank-outside}
 use Rattle.code.specs.Laws.Carrying.{lists-unique, carried-some}
 use Rattle.code.specs.Laws.ParityCount.{parities, messages, erased-parities, forest-parities, parity-lists, parity-or-message, message-lists}
-use Rattle.tables.specs.Picture.{Sized, Picture}
+use Rattle.tables.specs.Picture.{Sized, Counted, Picture}
 use Rattle.tables.specs.Sizes.{sized-valid, ∈-sized}
-use Rattle.tables.specs.Scan.{fromPlace, from-zero}
+use Rattle.tables.specs.Spots.{Stands, stands-section, stands-offset}
+use Rattle.tables.specs.SumLaws.{Syndromes}
+use Rattle.tables.specs.Counting.{Seen, All, Due, Notes, seen-skip, seen-all}
+use Rattle.tables.specs.Zeros.{Zeros, zeros, zeros-part}
 use Rattle.tables.specs.StuckLaws.{stuck-none}
-use Rattle.peel.specs.Fill.{filled, Fillable, filled-at, filled-out, filled-long}
+use Rattle.settling.specs.Fill.{filled, Fillable, filled-at, filled-out, filled-long}
 use Rattle.peel.specs.Peels.{Peelable, Peels, Peeled}
-use Rattle.runs.specs.Runs.{RunsOf, Marked, Spread}
+use Rattle.runs.specs.Runs.{RunsOf, Spread}
+use Rattle.runs.specs.Laws.Fronts.{runs-short, parity-offset}
 use Rattle.runs.specs.Laws.Carried.{layout-count}
-use Rattle.parities.specs.Zeros.{Zeros, zeros, zeros-part}
 
 -- a plan's numbers, its runs, and a block of its length
 pub record Sealable (n t : ℕ) (shifts runs block : List ℕ) : Type 0 where
@@ -41,16 +43,14 @@ pub record Room (t : ℕ) (a b c : List ℕ) : Type 0 where
   pub second-long : length b ≡ 2 * t
   pub third-long : length c ≡ 2 * t
 
--- tables of zeros: the marks, and an entry for each row
-pub record Blank (n t : ℕ) (marks sum left code : List ℕ) : Type 0 where
-  pub marks-zeros : marks ≡ replicate ((n * t + 7) / 8) 0
+-- tables of zeros with an entry for each row
+pub record Blank (t : ℕ) (sum left code : List ℕ) : Type 0 where
   pub sum-zeros : sum ≡ replicate (2 * t) 0
   pub left-zeros : left ≡ replicate (2 * t) 0
   pub code-zeros : code ≡ replicate (2 * t) 0
 
 -- the same with more room, and three tables beside them
-pub record Cut (n t : ℕ) (marks sum left code queue place value : List ℕ) : Type 0 where
-  pub marks-zeros : Zeros ((n * t + 7) / 8) marks
+pub record Cut (t : ℕ) (sum left code queue place value : List ℕ) : Type 0 where
   pub sum-zeros : Zeros (2 * t) sum
   pub left-zeros : Zeros (2 * t) left
   pub code-zeros : Zeros (2 * t) code
@@ -58,16 +58,15 @@ pub record Cut (n t : ℕ) (marks sum left code queue place value : List ℕ) : 
   pub place-room : 2 * t ≤ length place
   pub value-room : 2 * t ≤ length value
 
-pub cut-blank : {n t : ℕ} {marks sum left code queue place value : List ℕ} → Cut n t marks sum left code queue place value
-    → Blank n t (take ((n * t + 7) / 8) marks) (take (2 * t) sum) (take (2 * t) left) (take (2 * t) code)
+pub cut-blank : {t : ℕ} {sum left code queue place value : List ℕ} → Cut t sum left code queue place value
+    → Blank t (take (2 * t) sum) (take (2 * t) left) (take (2 * t) code)
 cut-blank c = record {
-  marks-zeros = zeros-part (c .marks-zeros);
   sum-zeros = zeros-part (c .sum-zeros);
   left-zeros = zeros-part (c .left-zeros);
   code-zeros = zeros-part (c .code-zeros);
 }
 
-pub cut-room : {n t : ℕ} {marks sum left code queue place value : List ℕ} → Cut n t marks sum left code queue place value
+pub cut-room : {t : ℕ} {sum left code queue place value : List ℕ} → Cut t sum left code queue place value
     → Room t (take (2 * t) queue) (take (2 * t) place) (take (2 * t) value)
 cut-room {t = t} {queue = queue} {place = place} {value = value} c = record {
   first-long = length-take-le (2 * t) queue (c .queue-room);
@@ -75,13 +74,11 @@ cut-room {t = t} {queue = queue} {place = place} {value = value} c = record {
   third-long = length-take-le (2 * t) value (c .value-room);
 }
 
--- arrays of k zeros, and of m for the marks
-pub cut-arrays : {n t : ℕ} (m k : ℕ) → (n * t + 7) / 8 ≤ m → 2 * t ≤ k
-    → Cut n t (replicate m 0) (replicate k 0) (replicate k 0) (replicate k 0) (replicate k 0) (replicate k 0) (replicate k 0)
-cut-arrays {t = t} m k g h =
+-- arrays of k zeros
+pub cut-arrays : {t : ℕ} (k : ℕ) → 2 * t ≤ k → Cut t (replicate k 0) (replicate k 0) (replicate k 0) (replicate k 0) (replicate k 0) (replicate k 0)
+cut-arrays {t} k h =
     let room : 2 * t ≤ length (replicate {A = ℕ} k 0) = omega (arith, length-replicate {A = ℕ} k 0) in
     record {
-      marks-zeros = zeros m g;
       sum-zeros = zeros k h;
       left-zeros = zeros k h;
       code-zeros = zeros k h;
@@ -90,33 +87,71 @@ cut-arrays {t = t} m k g h =
       value-room = room;
     }
 
--- 32 sections at most
-pub few-marks : {n t : ℕ} {shifts : List ℕ} (h : ℕ) → Sized n t shifts → t ≤ h → (n * t + 7) / 8 ≤ 4 * h
-few-marks {n} {t} h s e = omega (arith, mul-le-mul (s .n-max) e)
+-- ---- the parity places counted, section by section
+
+module _ {n t : ℕ} {shifts runs : List ℕ} (s : Sized n t shifts) (h : RunsOf n t (layout n t shifts) runs) where
+  -- a section and the next
+  pub section-next : (j : ℕ) {end : ℕ} → end ≡ j * t → end + t ≡ (j + 1) * t
+  section-next j e = let f : (j + 1) * t ≡ j * t + t = rw (add-one j, suc-mul) in omega arith
+
+  pub section-fits : {j end : ℕ} → j < n → end ≡ j * t → (end + t ≤ 32768) × (getD runs j 0 ≤ t)
+  section-fits {j} l e =
+      let g : j + 1 ≤ n = omega arith in
+      (omega (arith, section-next j e, mul-le-mul-right t g, s .places-max), runs-short h j)
+
+  pub sections-end : {j : ℕ} → n ≤ j → n * t ≤ j * t
+  sections-end l = mul-le-mul-right t l
+
+  -- the parity places of a section are those from its run on
+  section-parity : (j d : ℕ) → j < n → j * t ≤ d → d < j * t + t → (d ∈ parities (layout n t shifts)) ↔ (j * t + getD runs j 0 ≤ d)
+  section-parity j d l a b =
+      let st : Stands t d j (d - j * t) = record { whole = omega arith; within = omega arith } in
+      let o = parity-offset h {c = d} (rw (stands-section st) l) in
+      let e : getD runs (d / t) 0 ≡ getD runs j 0 = ap (λ i. getD runs i 0) (stands-section st) in
+      (λ m. omega (arith, o .0 m, e, stands-offset st), λ k. o .1 (omega (arith, e, stands-offset st)))
+
+  module _ {left code : List ℕ} {j c e : ℕ} (l : j < n) (ec : c ≡ j * t + getD runs j 0) (ee : e ≡ j * t + t)
+      (S : Seen n t shifts (parities (layout n t shifts)) (j * t) left code) where
+    section-all : All (parities (layout n t shifts)) c e
+    section-all d a b = section-parity j d l (omega arith) (omega arith) .1 (omega arith)
+
+    section-seen : Seen n t shifts (parities (layout n t shifts)) c left code
+    section-seen = seen-skip c S (omega arith) (λ d a b m. let k = section-parity j d l a (omega (arith, runs-short h j)) .0 m in omega arith)
+
+    pub section-due : Due n t shifts c e left code
+    section-due = record {
+      sized = s;
+      E = parities (layout n t shifts);
+      erased = erased-parities (layout n t shifts);
+      all = section-all;
+      seen = section-seen;
+    }
+
+    pub section-noted : {left' code' : List ℕ} → Notes n t shifts c e left code left' code' → Seen n t shifts (parities (layout n t shifts)) e left' code'
+    section-noted N = N .notes (parities (layout n t shifts)) (erased-parities (layout n t shifts)) section-all section-seen
+
+  pub all-noted : {left code : List ℕ} {c : ℕ} → Seen n t shifts (parities (layout n t shifts)) c left code → n * t ≤ c
+      → Counted (layout n t shifts) (parities (layout n t shifts)) left code
+  all-noted S g = seen-all s (erased-parities (layout n t shifts)) S g
 
 -- the tables picture the block with the parity places as erasures
 abbrev pub ParityPicture : Layout → List ℕ → List ℕ → List ℕ → List ℕ → Type 0
-ParityPicture L block sum left code = Picture L (parities L) (blank (parities L) (λ c. getD block c 0)) sum left code
+ParityPicture L block sum left code = Picture L (parities L) (λ c. getD block c 0) sum left code
 
 -- the block becomes every codeword that agrees with it off the parity places
 pub record Settled (L : Layout) (v v' : List ℕ) : Type 0 where
   pub found : (w : List ℕ) → Agrees L (parities L) v w → v' ≡ w
 
-pub marked-long : (n t : ℕ) (shifts : List ℕ) {marks : List ℕ} → Marked (layout n t shifts) marks → length marks ≡ (n * t + 7) / 8
-unfolding markBytes layout
-marked-long n t shifts m = m .whole
-
-pub parity-picture : (n t : ℕ) (shifts block : List ℕ) {marks sum left code : List ℕ} → Marked (layout n t shifts) marks →
-    Picture (layout n t shifts) (fromPlace 0 (erasures (layout n t shifts) marks)) (blank (fromPlace 0 (erasures (layout n t shifts) marks)) (λ c. getD block c 0)) sum left code →
-    ParityPicture (layout n t shifts) block sum left code
-parity-picture n t shifts block {sum = sum} {left = left} {code = code} m p =
-    subst (λ E. Picture (layout n t shifts) E (blank E (λ c. getD block c 0)) sum left code) (from-zero _ ∙ m .exact) p
+pub parity-picture : {n t : ℕ} {shifts block sum left code : List ℕ} → ((c : ℕ) → getD block c 0 < 256) → Syndromes n t shifts block sum
+    → Counted (layout n t shifts) (parities (layout n t shifts)) left code → ParityPicture (layout n t shifts) block sum left code
+unfolding layout
+parity-picture byte s c = record { sum-long = s .long; byte = byte; sums = s .each; counted = c }
 
 pub peelable : {n t : ℕ} {shifts : List ℕ} → Sized n t shifts → (v : List ℕ) {sum left code queue place value : List ℕ} →
     ParityPicture (layout n t shifts) v sum left code → Room t queue place value → Peelable n t shifts sum left code queue place value
 peelable {n} {t} {shifts} s v p room = record {
   sized = s;
-  pictured = record { E = parities (layout n t shifts); u = blank (parities (layout n t shifts)) (λ c. getD v c 0); picture = p };
+  pictured = record { E = parities (layout n t shifts); u = λ c. getD v c 0; picture = p };
   queue-long = room .first-long;
   place-long = room .second-long;
   value-long = room .third-long;
@@ -125,14 +160,14 @@ peelable {n} {t} {shifts} s v p room = record {
 module _ {n t : ℕ} {shifts : List ℕ} (s : Sized n t shifts) (v : List ℕ) (long : length v ≡ n * t) {sum left code sum' left' code' place value : List ℕ} {k : ℕ}
     (pic : ParityPicture (layout n t shifts) v sum left code)
     (p : Peels (layout n t shifts) sum left code sum' left' code' place value k) where
-  ends : Peeled (layout n t shifts) (parities (layout n t shifts)) (blank (parities (layout n t shifts)) (λ c. getD v c 0)) sum' left' code' place value k
+  ends : Peeled (layout n t shifts) (parities (layout n t shifts)) (λ c. getD v c 0) sum' left' code' place value k
   ends = p .peeled _ _ pic
 
   -- peeling left nothing
   none-left : ends .F ≡ []
   none-left =
       stuck-none (layout n t shifts) (sized-valid s) (erased-parities (layout n t shifts) .rising) (forest-parities (layout n t shifts))
-      (ends .picture .erased .rising) (ends .settles .fewer) (ends .stuck)
+      (ends .picture .counted .erased .rising) (ends .settles .fewer) (ends .stuck)
 
   place-inside : (i : ℕ) → i < k → getD place i 0 < length v
   unfolding layout
@@ -151,10 +186,10 @@ module _ {n t : ℕ} {shifts : List ℕ} (s : Sized n t shifts) (v : List ℕ) (
   filled-is : (c : ℕ) → getD (filled v place value k) c 0 ≡ ends .x c
   filled-is c =
       by-cases (decIn c (parities (layout n t shifts)))
-      (λ m. filled-at v place value (ends .x) k place-inside (λ i h. ends .settles .settled i h .2)
+      (λ m. filled-at v place value (ends .x) k place-inside (ends .settles .once) (λ i h. ends .settles .settled i h .2)
       (ends .settles .listed c m (λ q. List·Memᴰ·not-nil (subst (λ F. c ∈ F) none-left q))))
       (λ out. filled-out v place value k (λ i h e. out (Memᴰ·cast (sym e) (ends .settles .settled i h .0)))
-      ∙ sym (blank-outside (λ c. getD v c 0) out) ∙ sym (ends .settles .kept c out))
+      ∙ sym (ends .settles .kept c out))
 
   pub settled : {v' : List ℕ} → v' ≡ filled v place value k → Settled (layout n t shifts) v v'
   unfolding layout
@@ -162,7 +197,7 @@ module _ {n t : ℕ} {shifts : List ℕ} (s : Sized n t shifts) (v : List ℕ) (
     found = λ w a. e ∙ ext-getD 0 (filled v place value k) w (filled-long v place value k ∙ long ∙ sym (a .codeword .whole))
         (λ c h. filled-is c
         ∙ sym (ends .settles .forced (at w) (a .codeword .sums)
-        (λ d i out. a .unmarked d (places-∈ (layout n t shifts) i .0) out ∙ sym (blank-outside (λ c. getD v c 0) out))
+        (λ d i out. a .unmarked d (places-∈ (layout n t shifts) i .0) out)
         c (∈-sized s (omega (arith, filled-long v place value k))) (λ q. List·Memᴰ·not-nil (subst (λ F. c ∈ F) none-left q))));
   }
 

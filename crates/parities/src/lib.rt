@@ -1,44 +1,42 @@
 // The parity symbols of a block that holds a message: erasures that peeling settles, all of them.
 // Public for the crate sealing only: fill_parities.
-ghost use Prim.Native.Nat.{_≤_};
+ghost use mathlib.Core.Path.{_≡_};
+ghost use Prim.Native.Nat.{_*_, _≤_};
+ghost use lib.ListN.{replicate};
 ghost use Rattle.plan.specs.Layout.{layout};
-ghost use Rattle.parities.specs.Settling.{Sealable, Room, Blank, Cut, ParityPicture, Settled};
-use peel::fill::fill;
+ghost use Rattle.code.specs.Laws.ParityCount.{parities};
+ghost use Rattle.tables.specs.Picture.{Sized, Counted};
+ghost use Rattle.runs.specs.Runs.{RunsOf};
+ghost use Rattle.parities.specs.Settling.{Sealable, Room, Blank, Cut, Settled};
 use peel::peel;
-use plan::Place;
-use runs::parity_marks;
-use tables::marks::note_marks;
+use settling::fill::fill;
+use shifts::wide;
+use tables::marks::note_places;
 use tables::sums::syndromes;
+use tables::walk::Section;
 
-// The tables of the block with the parity places as erasures, in tables of zeros.
-fn picture_parities(
+// Counts the parity places in tables of zeros: of each section those from its run on.
+fn count_parities(
     n: usize,
     t: usize,
     shifts: &[u16],
     runs: &[u16],
-    block: &[u8],
-    marks: &mut [u8],
-    sum: &mut [u8],
-    left: &mut [u16],
+    left: &mut [u8],
     code: &mut [u16],
 )
-    requires { ⌜ Sealable n t (now shifts) (now runs) (now block) ⌝ }
-    requires { ⌜ Blank n t (now marks) (now sum) (now left) (now code) ⌝ }
-    ensures { λ _. ⌜ ParityPicture (layout n t (now (shifts .entry))) (now (block .entry)) (now (sum .exit)) (now (left .exit)) (now (code .exit)) ⌝ }
+    requires { ⌜ Sized n t (now shifts) × RunsOf n t (layout n t (now shifts)) (now runs) ⌝ }
+    requires { ⌜ (now left ≡ replicate (2 * t) 0) × (now code ≡ replicate (2 * t) 0) ⌝ }
+    ensures { λ _. ⌜ Counted (layout n t (now (shifts .entry))) (parities (layout n t (now (shifts .entry)))) (now (left .exit)) (now (code .exit)) ⌝ }
 {
-    parity_marks(n, t, runs, &mut marks[..]);
-    syndromes(n, t, shifts, block, &mut sum[..]);
-    note_marks(
-        n,
-        t,
-        shifts,
-        block,
-        &marks[..],
-        Place(0),
-        &mut sum[..],
-        &mut left[..],
-        &mut code[..],
-    );
+    let mut at = Section::start(n, t, shifts);
+    let mut end = 0;
+    let mut j = 0;
+    while j < n {
+        let c = end + wide(runs[j]);
+        end += t;
+        at = note_places(n, t, shifts, c, end, at, &mut left[..], &mut code[..]);
+        j += 1;
+    }
 }
 
 // Settles the parity places, with the tables lent.
@@ -48,30 +46,20 @@ fn settle_parities(
     shifts: &[u16],
     runs: &[u16],
     block: &mut [u8],
-    marks: &mut [u8],
     sum: &mut [u8],
-    left: &mut [u16],
+    left: &mut [u8],
     code: &mut [u16],
     queue: &mut [u16],
     place: &mut [u16],
     value: &mut [u8],
 )
     requires { ⌜ Sealable n t (now shifts) (now runs) (now block) ⌝ }
-    requires { ⌜ Blank n t (now marks) (now sum) (now left) (now code) ⌝ }
+    requires { ⌜ Blank t (now sum) (now left) (now code) ⌝ }
     requires { ⌜ Room t (now queue) (now place) (now value) ⌝ }
     ensures { λ _. ⌜ Settled (layout n t (now (shifts .entry))) (now (block .entry)) (now (block .exit)) ⌝ }
 {
-    picture_parities(
-        n,
-        t,
-        shifts,
-        runs,
-        &block[..],
-        &mut marks[..],
-        &mut sum[..],
-        &mut left[..],
-        &mut code[..],
-    );
+    syndromes(n, t, shifts, &block[..], &mut sum[..]);
+    count_parities(n, t, shifts, runs, &mut left[..], &mut code[..]);
     let k = peel(
         n,
         t,
@@ -93,27 +81,24 @@ fn cut(
     shifts: &[u16],
     runs: &[u16],
     block: &mut [u8],
-    marks: &mut [u8],
     sum: &mut [u8],
-    left: &mut [u16],
+    left: &mut [u8],
     code: &mut [u16],
     queue: &mut [u16],
     place: &mut [u16],
     value: &mut [u8],
 )
     requires { ⌜ Sealable n t (now shifts) (now runs) (now block) ⌝ }
-    requires { ⌜ Cut n t (now marks) (now sum) (now left) (now code) (now queue) (now place) (now value) ⌝ }
+    requires { ⌜ Cut t (now sum) (now left) (now code) (now queue) (now place) (now value) ⌝ }
     ensures { λ _. ⌜ Settled (layout n t (now (shifts .entry))) (now (block .entry)) (now (block .exit)) ⌝ }
 {
     let rows = 2 * t;
-    let bytes = (n * t + 7) / 8;
     settle_parities(
         n,
         t,
         shifts,
         runs,
         block,
-        &mut marks[..bytes],
         &mut sum[..rows],
         &mut left[..rows],
         &mut code[..rows],
@@ -128,9 +113,8 @@ fn fill_small(n: usize, t: usize, shifts: &[u16], runs: &[u16], block: &mut [u8]
     requires { ⌜ t ≤ 32 ⌝ }
     ensures { λ _. ⌜ Settled (layout n t (now (shifts .entry))) (now (block .entry)) (now (block .exit)) ⌝ }
 {
-    let mut marks = [0u8; 128];
     let mut sum = [0u8; 64];
-    let mut left = [0u16; 64];
+    let mut left = [0u8; 64];
     let mut code = [0u16; 64];
     let mut queue = [0u16; 64];
     let mut place = [0u16; 64];
@@ -141,7 +125,6 @@ fn fill_small(n: usize, t: usize, shifts: &[u16], runs: &[u16], block: &mut [u8]
         shifts,
         runs,
         block,
-        &mut marks[..],
         &mut sum[..],
         &mut left[..],
         &mut code[..],
@@ -153,23 +136,47 @@ fn fill_small(n: usize, t: usize, shifts: &[u16], runs: &[u16], block: &mut [u8]
 
 fn fill_medium(n: usize, t: usize, shifts: &[u16], runs: &[u16], block: &mut [u8])
     requires { ⌜ Sealable n t (now shifts) (now runs) (now block) ⌝ }
-    requires { ⌜ t ≤ 256 ⌝ }
+    requires { ⌜ t ≤ 192 ⌝ }
     ensures { λ _. ⌜ Settled (layout n t (now (shifts .entry))) (now (block .entry)) (now (block .exit)) ⌝ }
 {
-    let mut marks = [0u8; 1024];
-    let mut sum = [0u8; 512];
-    let mut left = [0u16; 512];
-    let mut code = [0u16; 512];
-    let mut queue = [0u16; 512];
-    let mut place = [0u16; 512];
-    let mut value = [0u8; 512];
+    let mut sum = [0u8; 384];
+    let mut left = [0u8; 384];
+    let mut code = [0u16; 384];
+    let mut queue = [0u16; 384];
+    let mut place = [0u16; 384];
+    let mut value = [0u8; 384];
     cut(
         n,
         t,
         shifts,
         runs,
         block,
-        &mut marks[..],
+        &mut sum[..],
+        &mut left[..],
+        &mut code[..],
+        &mut queue[..],
+        &mut place[..],
+        &mut value[..],
+    );
+}
+
+fn fill_wide(n: usize, t: usize, shifts: &[u16], runs: &[u16], block: &mut [u8])
+    requires { ⌜ Sealable n t (now shifts) (now runs) (now block) ⌝ }
+    requires { ⌜ t ≤ 1024 ⌝ }
+    ensures { λ _. ⌜ Settled (layout n t (now (shifts .entry))) (now (block .entry)) (now (block .exit)) ⌝ }
+{
+    let mut sum = [0u8; 2112];
+    let mut left = [0u8; 2112];
+    let mut code = [0u16; 2112];
+    let mut queue = [0u16; 2112];
+    let mut place = [0u16; 2112];
+    let mut value = [0u8; 2112];
+    cut(
+        n,
+        t,
+        shifts,
+        runs,
+        block,
         &mut sum[..],
         &mut left[..],
         &mut code[..],
@@ -184,9 +191,8 @@ fn fill_large(n: usize, t: usize, shifts: &[u16], runs: &[u16], block: &mut [u8]
     requires { ⌜ t ≤ 2048 ⌝ }
     ensures { λ _. ⌜ Settled (layout n t (now (shifts .entry))) (now (block .entry)) (now (block .exit)) ⌝ }
 {
-    let mut marks = [0u8; 4096];
     let mut sum = [0u8; 4160];
-    let mut left = [0u16; 4160];
+    let mut left = [0u8; 4160];
     let mut code = [0u16; 4160];
     let mut queue = [0u16; 4160];
     let mut place = [0u16; 4160];
@@ -197,7 +203,6 @@ fn fill_large(n: usize, t: usize, shifts: &[u16], runs: &[u16], block: &mut [u8]
         shifts,
         runs,
         block,
-        &mut marks[..],
         &mut sum[..],
         &mut left[..],
         &mut code[..],
@@ -217,8 +222,12 @@ pub fn fill_parities(n: usize, t: usize, shifts: &[u16], runs: &[u16], block: &m
         fill_small(n, t, shifts, runs, block);
         return;
     }
-    if t <= 256 {
+    if t <= 192 {
         fill_medium(n, t, shifts, runs, block);
+        return;
+    }
+    if t <= 1024 {
+        fill_wide(n, t, shifts, runs, block);
         return;
     }
     fill_large(n, t, shifts, runs, block);

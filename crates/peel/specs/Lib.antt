@@ -1,5 +1,2 @@
--- Settling erasures row by row, through a queue of the rows that have one left; putting the values in; the test for what is left.
-pub mod Queue
-pub mod Settling
+-- Settling erasures row by row, through a queue of the rows that have one left.
 pub mod Peels
-pub mod Fill

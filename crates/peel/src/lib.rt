@@ -1,19 +1,13 @@
 // Peeling: settling erasures row by row, as far as some row has exactly one left.
-// Entries: peel, fill::fill, fill::clean.
+// Entry: peel.
 ghost use mathlib.Core.Path.{_≡_};
 ghost use Prim.Native.Nat.{_*_, _<_};
 ghost use Rattle.plan.specs.Layout.{layout};
 ghost use Rattle.peel.specs.Peels.{Ready, Steps, Peelable, Peels};
-
-pub mod fill;
-mod queue;
-mod settle;
-mod zeros;
-
-use crate::queue::enter;
-use crate::queue::seed;
-use crate::settle::settle;
-use plan::Row;
+use settling::queue::enter;
+use settling::queue::enter_stored;
+use settling::queue::seed;
+use settling::settle::settle;
 
 // The ends of the queue and of the list of settled places.
 struct Ends {
@@ -22,19 +16,18 @@ struct Ends {
 }
 
 // One turn: the row at the head of the queue, if it still has exactly one left.
-fn step(
+fn step_chain(
     n: usize,
     t: usize,
     shifts: &[u16],
     sum: &mut [u8],
-    left: &mut [u16],
+    left: &mut [u8],
     code: &mut [u16],
     queue: &mut [u16],
     place: &mut [u16],
     value: &mut [u8],
     head: usize,
     ends: Ends,
-    chains: bool,
 ) -> Ends
     requires { ⌜ Ready n t (now shifts) (now sum) (now left) (now code) (now queue) (now place) (now value) head (ends .tail) (ends .count) ⌝ }
     requires { ⌜ head < ends .tail ⌝ }
@@ -42,9 +35,8 @@ fn step(
 {
     let tail = ends.tail;
     let count = ends.count;
-    let row = queue[head];
-    let r = row as usize;
-    if left[r] != 1 {
+    let row = queue[head] as usize;
+    if left[row] != 1 {
         return Ends { tail, count };
     }
     let s = settle(
@@ -54,9 +46,9 @@ fn step(
         &mut sum[..],
         &mut left[..],
         &mut code[..],
-        Row(row),
+        row,
     );
-    let longer = enter(&mut queue[..], tail, s.other, s.rest, chains);
+    let longer = enter(&mut queue[..], tail, s.other, s.rest);
     place[count] = s.place.0;
     value[count] = s.value;
     Ends {
@@ -65,28 +57,69 @@ fn step(
     }
 }
 
-// Settles what it can; gives the number of places settled, which stand with their values at the front of the two lists.
-pub fn peel(
+// The same where the next row is stored in any case.
+fn step_stored(
     n: usize,
     t: usize,
     shifts: &[u16],
     sum: &mut [u8],
-    left: &mut [u16],
+    left: &mut [u8],
     code: &mut [u16],
     queue: &mut [u16],
     place: &mut [u16],
     value: &mut [u8],
+    head: usize,
+    ends: Ends,
+) -> Ends
+    requires { ⌜ Ready n t (now shifts) (now sum) (now left) (now code) (now queue) (now place) (now value) head (ends .tail) (ends .count) ⌝ }
+    requires { ⌜ head < ends .tail ⌝ }
+    ensures { λ r. ⌜ Steps n t (now (shifts .entry)) (now (sum .entry)) (now (left .entry)) (now (code .entry)) (now (queue .entry)) (now (place .entry)) (now (value .entry)) head (ends .count) (now (sum .exit)) (now (left .exit)) (now (code .exit)) (now (queue .exit)) (now (place .exit)) (now (value .exit)) (r .tail) (r .count) ⌝ }
+{
+    let tail = ends.tail;
+    let count = ends.count;
+    let row = queue[head] as usize;
+    if left[row] != 1 {
+        return Ends { tail, count };
+    }
+    let s = settle(
+        n,
+        t,
+        shifts,
+        &mut sum[..],
+        &mut left[..],
+        &mut code[..],
+        row,
+    );
+    let longer = enter_stored(&mut queue[..], tail, s.other, s.rest);
+    place[count] = s.place.0;
+    value[count] = s.value;
+    Ends {
+        tail: longer,
+        count: count + 1,
+    }
+}
+
+// The turns until the queue is empty; gives the number of places settled.
+fn drain_chains(
+    n: usize,
+    t: usize,
+    shifts: &[u16],
+    sum: &mut [u8],
+    left: &mut [u8],
+    code: &mut [u16],
+    queue: &mut [u16],
+    place: &mut [u16],
+    value: &mut [u8],
+    seeds: usize,
 ) -> usize
-    requires { ⌜ Peelable n t (now shifts) (now sum) (now left) (now code) (now queue) (now place) (now value) ⌝ }
+    requires { ⌜ Ready n t (now shifts) (now sum) (now left) (now code) (now queue) (now place) (now value) 0 seeds 0 ⌝ }
     ensures { λ r. ⌜ Peels (layout n t (now (shifts .entry))) (now (sum .entry)) (now (left .entry)) (now (code .entry)) (now (sum .exit)) (now (left .exit)) (now (code .exit)) (now (place .exit)) (now (value .exit)) r ⌝ }
 {
-    let mut tail = seed(t, &left[..], &mut queue[..]);
-    // Few rows to start from: the erasures lie in chains.
-    let chains = tail < t / 8;
+    let mut tail = seeds;
     let mut count = 0;
     let mut head = 0;
     while head < tail {
-        let ends = step(
+        let ends = step_chain(
             n,
             t,
             shifts,
@@ -98,11 +131,95 @@ pub fn peel(
             &mut value[..],
             head,
             Ends { tail, count },
-            chains,
         );
         tail = ends.tail;
         count = ends.count;
         head += 1;
     }
     count
+}
+
+// The same where the next row is stored in any case.
+fn drain_stored(
+    n: usize,
+    t: usize,
+    shifts: &[u16],
+    sum: &mut [u8],
+    left: &mut [u8],
+    code: &mut [u16],
+    queue: &mut [u16],
+    place: &mut [u16],
+    value: &mut [u8],
+    seeds: usize,
+) -> usize
+    requires { ⌜ Ready n t (now shifts) (now sum) (now left) (now code) (now queue) (now place) (now value) 0 seeds 0 ⌝ }
+    ensures { λ r. ⌜ Peels (layout n t (now (shifts .entry))) (now (sum .entry)) (now (left .entry)) (now (code .entry)) (now (sum .exit)) (now (left .exit)) (now (code .exit)) (now (place .exit)) (now (value .exit)) r ⌝ }
+{
+    let mut tail = seeds;
+    let mut count = 0;
+    let mut head = 0;
+    while head < tail {
+        let ends = step_stored(
+            n,
+            t,
+            shifts,
+            &mut sum[..],
+            &mut left[..],
+            &mut code[..],
+            &mut queue[..],
+            &mut place[..],
+            &mut value[..],
+            head,
+            Ends { tail, count },
+        );
+        tail = ends.tail;
+        count = ends.count;
+        head += 1;
+    }
+    count
+}
+
+// Settles what it can; gives the number of places settled, which stand with their values at the front of the two lists.
+pub fn peel(
+    n: usize,
+    t: usize,
+    shifts: &[u16],
+    sum: &mut [u8],
+    left: &mut [u8],
+    code: &mut [u16],
+    queue: &mut [u16],
+    place: &mut [u16],
+    value: &mut [u8],
+) -> usize
+    requires { ⌜ Peelable n t (now shifts) (now sum) (now left) (now code) (now queue) (now place) (now value) ⌝ }
+    ensures { λ r. ⌜ Peels (layout n t (now (shifts .entry))) (now (sum .entry)) (now (left .entry)) (now (code .entry)) (now (sum .exit)) (now (left .exit)) (now (code .exit)) (now (place .exit)) (now (value .exit)) r ⌝ }
+{
+    let tail = seed(t, &left[..], &mut queue[..]);
+    // Few rows to start from: the erasures lie in chains.
+    if tail < t / 8 {
+        return drain_chains(
+            n,
+            t,
+            shifts,
+            &mut sum[..],
+            &mut left[..],
+            &mut code[..],
+            &mut queue[..],
+            &mut place[..],
+            &mut value[..],
+            tail,
+        );
+    }
+    drain_stored(
+        n,
+        t,
+        shifts,
+        &mut sum[..],
+        &mut left[..],
+        &mut code[..],
+        &mut queue[..],
+        &mut place[..],
+        &mut value[..],
+        tail,
+    )
 }

@@ -10,10 +10,10 @@ use calls::Lent;
 use calls::Part;
 use calls::check_call;
 use deciding::cut;
-use deciding::intact;
-use deciding::recovered;
 use plan::Plan;
 use promises::Recovery;
+use whole::intact;
+use whole::recovered;
 
 // Recovers the block, or leaves it as it is and says why; the witness list shows the answer's reason.
 pub fn recover(plan: Plan, block: &mut [u8], marks: &[u8], witness: &mut [u16]) -> Recovery
@@ -50,7 +50,7 @@ fn decide(
     if t <= 32 {
         return decide_small(n, t, shifts, block, marks, witness);
     }
-    if t <= 256 {
+    if t <= 192 {
         return decide_medium(n, t, shifts, block, marks, witness);
     }
     if t <= 512 {
@@ -78,9 +78,8 @@ fn decide_small(
     if intact(n, t, shifts, &block[..], marks, &mut sum[..]) {
         return recovered(witness);
     }
-    let mut left = [0u16; 64];
+    let mut left = [0u8; 64];
     let mut code = [0u16; 64];
-    let mut queue = [0u16; 64];
     let mut place = [0u16; 64];
     let mut value = [0u8; 64];
     cut(
@@ -92,7 +91,6 @@ fn decide_small(
         &mut sum[..],
         &mut left[..],
         &mut code[..],
-        &mut queue[..],
         &mut place[..],
         &mut value[..],
         witness,
@@ -108,18 +106,17 @@ fn decide_medium(
     witness: &mut [u16],
 ) -> Recovery
     requires { ⌜ Given n t (now shifts) (now block) (now marks) (now witness) ⌝ }
-    requires { ⌜ t ≤ 256 ⌝ }
+    requires { ⌜ t ≤ 192 ⌝ }
     ensures { λ r. ⌜ Decides (layout n t (now (shifts .entry))) (erasures (layout n t (now (shifts .entry))) (now (marks .entry))) (now (block .entry)) r (now (block .exit)) (now (witness .exit)) ⌝ }
 {
-    let mut sum = [0u8; 512];
+    let mut sum = [0u8; 384];
     if intact(n, t, shifts, &block[..], marks, &mut sum[..]) {
         return recovered(witness);
     }
-    let mut left = [0u16; 512];
-    let mut code = [0u16; 512];
-    let mut queue = [0u16; 512];
-    let mut place = [0u16; 512];
-    let mut value = [0u8; 512];
+    let mut left = [0u8; 384];
+    let mut code = [0u16; 384];
+    let mut place = [0u16; 384];
+    let mut value = [0u8; 384];
     cut(
         n,
         t,
@@ -129,7 +126,6 @@ fn decide_medium(
         &mut sum[..],
         &mut left[..],
         &mut code[..],
-        &mut queue[..],
         &mut place[..],
         &mut value[..],
         witness,
@@ -152,9 +148,8 @@ fn decide_wide(
     if intact(n, t, shifts, &block[..], marks, &mut sum[..]) {
         return recovered(witness);
     }
-    let mut left = [0u16; 1088];
+    let mut left = [0u8; 1088];
     let mut code = [0u16; 1088];
-    let mut queue = [0u16; 1088];
     let mut place = [0u16; 1088];
     let mut value = [0u8; 1088];
     cut(
@@ -166,7 +161,6 @@ fn decide_wide(
         &mut sum[..],
         &mut left[..],
         &mut code[..],
-        &mut queue[..],
         &mut place[..],
         &mut value[..],
         witness,
@@ -189,9 +183,8 @@ fn decide_wider(
     if intact(n, t, shifts, &block[..], marks, &mut sum[..]) {
         return recovered(witness);
     }
-    let mut left = [0u16; 2112];
+    let mut left = [0u8; 2112];
     let mut code = [0u16; 2112];
-    let mut queue = [0u16; 2112];
     let mut place = [0u16; 2112];
     let mut value = [0u8; 2112];
     cut(
@@ -203,7 +196,6 @@ fn decide_wider(
         &mut sum[..],
         &mut left[..],
         &mut code[..],
-        &mut queue[..],
         &mut place[..],
         &mut value[..],
         witness,
@@ -226,9 +218,8 @@ fn decide_large(
     if intact(n, t, shifts, &block[..], marks, &mut sum[..]) {
         return recovered(witness);
     }
-    let mut left = [0u16; 4160];
+    let mut left = [0u8; 4160];
     let mut code = [0u16; 4160];
-    let mut queue = [0u16; 4160];
     let mut place = [0u16; 4160];
     let mut value = [0u8; 4160];
     cut(
@@ -240,7 +231,6 @@ fn decide_large(
         &mut sum[..],
         &mut left[..],
         &mut code[..],
-        &mut queue[..],
         &mut place[..],
         &mut value[..],
         witness,

@@ -5,7 +5,6 @@ use Prim.Native.Nat.{ℕ, _*_, _≤_, _<_}
 use lib.ListN.{length, getD}
 use Rattle.math.specs.Members.{_∈_, upTo}
 use Rattle.plan.specs.Layout.{Layout, Valid, messageCount}
-use Rattle.code.specs.Marks.{markBytes, NoSpare, erasures}
 use Rattle.code.specs.Laws.Forest.{runOf}
 use Rattle.code.specs.Laws.ParityCount.{parities, messages}
 
@@ -32,14 +31,13 @@ pub record Lent (n t : ℕ) (runs block message : List ℕ) : Type 0 where
   pub block-long : length block ≡ n * t
   pub message-long : length message ≡ messageCount L
 
+-- the first k sections are runs from end to end
+pub record Full (n t : ℕ) (runs : List ℕ) (k : ℕ) : Type 0 where
+  pub most : k ≤ n
+  pub whole : (i : ℕ) → i < k → getD runs i 0 ≡ t
+
 -- the message stands at the message places, 0 at the parity places
 pub record Spread (L : Layout) (message block : List ℕ) : Type 0 where
   pub whole : length block ≡ L .n * L .t
   pub carried : map (λ c. getD block c 0) (messages L) ≡ message
   pub blank : (c : ℕ) → c ∈ parities L → getD block c 0 ≡ 0
-
--- exactly the parity places are marked
-pub record Marked (L : Layout) (marks : List ℕ) : Type 0 where
-  pub whole : length marks ≡ markBytes L
-  pub exact : erasures L marks ≡ parities L
-  pub spare : NoSpare L marks

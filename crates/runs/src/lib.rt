@@ -1,16 +1,15 @@
 // The runs of message places: of each section the number of its first places that carry the message.
-// Entries: runs, gather, spread, parity_marks.
+// Entries: runs, gather, spread.
 // The modules marks and parts are public for the crates above only.
 ghost use mathlib.Core.Path.{_≡_};
-ghost use Prim.Native.Nat.{_+_, _*_, _/_};
+ghost use Prim.Native.Nat.{_+_, _*_, _/_, _≤_};
 ghost use mathlib.Core.List.{map};
-ghost use lib.ListN.{getD, replicate};
+ghost use lib.ListN.{length, getD, replicate};
 ghost use Rattle.math.specs.Gcd.{gcd as gcdOf};
 ghost use Rattle.code.specs.Laws.ParityCount.{messages};
 ghost use Rattle.plan.specs.Layout.{Layout, layout};
 ghost use Rattle.runs.specs.Sized.{Sized};
-ghost use Rattle.runs.specs.Runs.{RunsOf, Runs, Lent, Spread, Marked};
-use plan::Place;
+ghost use Rattle.runs.specs.Runs.{RunsOf, Runs, Lent, Full, Spread};
 use shifts::gap;
 use shifts::gcd;
 use shifts::wide;
@@ -46,14 +45,30 @@ fn share(a: usize, g: usize) -> usize
     gcd(a, g)
 }
 
-// The message of a block.
+// The number of sections, from the first on, that carry the message in all their places.
+fn full(n: usize, t: usize, runs: &[u16]) -> usize
+    requires { ⌜ n ≤ length (now runs) ⌝ }
+    ensures { λ r. ⌜ Full n t (now (runs .entry)) r ⌝ }
+{
+    let mut j = 0;
+    while j < n {
+        if wide(runs[j]) != t {
+            return j;
+        }
+        j += 1;
+    }
+    j
+}
+
+// The message of a block. Full sections follow on each other in both, so they are copied at once.
 pub fn gather(n: usize, t: usize, runs: &[u16], block: &[u8], message: &mut [u8])
     requires { ⌜ Lent n t (now runs) (now block) (now message) ⌝ }
     ensures { λ _. ⌜ ((L : Layout) → RunsOf n t L (now (runs .entry)) → now (message .exit) ≡ map (λ c. getD (now (block .entry)) c 0) (messages L)) ⌝ }
 {
-    let mut from = 0;
-    let mut done = 0;
-    let mut j = 0;
+    let mut j = full(n, t, runs);
+    let mut from = j * t;
+    let mut done = from;
+    parts::copy(&block[0..done], &mut message[0..done]);
     while j < n {
         let run = wide(runs[j]);
         let end = from + run;
@@ -70,9 +85,10 @@ pub fn spread(n: usize, t: usize, runs: &[u16], message: &[u8], block: &mut [u8]
     requires { ⌜ Lent n t (now runs) (now block) (now message) ⌝ }
     ensures { λ _. ⌜ ((L : Layout) → RunsOf n t L (now (runs .entry)) → Spread L (now (message .entry)) (now (block .exit))) ⌝ }
 {
-    let mut from = 0;
-    let mut done = 0;
-    let mut j = 0;
+    let mut j = full(n, t, runs);
+    let mut from = j * t;
+    let mut done = from;
+    parts::copy(&message[0..done], &mut block[0..done]);
     while j < n {
         let run = wide(runs[j]);
         let end = from + run;
@@ -82,23 +98,6 @@ pub fn spread(n: usize, t: usize, runs: &[u16], message: &[u8], block: &mut [u8]
         parts::clear(&mut block[end..stop]);
         from = stop;
         done = next;
-        j += 1;
-    }
-}
-
-// The bits of the parity places; they must be 0 before.
-pub fn parity_marks(n: usize, t: usize, runs: &[u16], marks: &mut [u8])
-    requires { ⌜ Runs n t (now runs) ⌝ }
-    requires { ⌜ now marks ≡ replicate ((n * t + 7) / 8) 0 ⌝ }
-    ensures { λ _. ⌜ ((L : Layout) → RunsOf n t L (now (runs .entry)) → Marked L (now (marks .exit))) ⌝ }
-{
-    let mut from = 0;
-    let mut j = 0;
-    while j < n {
-        let run = wide(runs[j]);
-        let start = from + run;
-        marks::set_run(Place(start as u16), t - run, &mut marks[..]);
-        from += t;
         j += 1;
     }
 }

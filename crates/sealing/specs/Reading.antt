@@ -8,7 +8,7 @@ use lib.ListN.{length, getD, take, length-append}
 use lib.Seq.{take-at}
 use Rattle.plan.specs.Layout.{layout}
 use Rattle.code.specs.Codewords.{Codeword}
-use Rattle.peel.specs.Fill.{cleanOf, clean-zero, zero-clean}
+use Rattle.settling.specs.Fill.{cleanOf, clean-zero, zero-clean}
 use mathlib.Core.Bool.{Bool, true, false, true≢false}
 use Rattle.tables.specs.SumLaws.{Syndromes}
 

@@ -10,7 +10,7 @@ ghost use Rattle.tables.specs.Picture.{Sized};
 ghost use Rattle.runs.specs.Laws.Fronts.{total};
 ghost use Rattle.promises.specs.Promises.{Encodes, Reads};
 ghost use Rattle.sealing.specs.Reading.{Tells};
-ghost use Rattle.parities.specs.Zeros.{Zeros};
+ghost use Rattle.tables.specs.Zeros.{Zeros};
 ghost use Rattle.parities.specs.Settling.{Sealable};
 ghost use Rattle.sealing.specs.Passing.{Checks};
 use calls::Check;
@@ -19,13 +19,13 @@ use calls::Part;
 use calls::Refusal;
 use calls::check_call;
 use parities::fill_parities;
-use peel::fill::clean;
 use plan::Plan;
 use promises::Encoding;
 use promises::Reading;
 use runs::gather;
 use runs::runs;
 use runs::spread;
+use settling::fill::clean;
 use shifts::wide;
 use tables::sums::syndromes;
 
@@ -118,7 +118,7 @@ fn rows_clean(n: usize, t: usize, shifts: &[u16], block: &[u8], sum: &mut [u8]) 
 {
     let rows = 2 * t;
     syndromes(n, t, shifts, block, &mut sum[..rows]);
-    clean(&sum[..rows], &shifts[0..0])
+    clean(&sum[..rows], &block[0..0])
 }
 
 fn clean_small(n: usize, t: usize, shifts: &[u16], block: &[u8]) -> bool

@@ -7,9 +7,11 @@ pub mod Sizes
 pub mod Sweeps
 pub mod SumLaws
 pub mod Filling
+pub mod Zeros
+pub mod StuckLaws
 pub mod Bounds
+pub mod Counting
 pub mod Lowest
 pub mod Words
 pub mod Scan
 pub mod Stretches
-pub mod StuckLaws

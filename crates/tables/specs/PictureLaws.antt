@@ -1,6 +1,6 @@
--- How the tables change when a place is noted (it joins the erasures and its symbol becomes 0) and when one is settled (it leaves them and
--- gets its symbol). Main results: syndrome-change, length-onRow-add and -without, xor-onRow-add and -without, and from them
--- picture-add and picture-remove; Touched says what stores at the two rows of a place do to a table.
+-- How the tables change when a place is noted (it joins the erasures) and when one is settled (it leaves them, and its symbol changes).
+-- Main results: syndrome-change, length-onRow-add and -without, xor-onRow-add and -without, and from them
+-- counted-more and picture-less; Touched says what stores at the two rows of a place do to a table.
 use mathlib.Core.Path.{_≡_, refl, sym, _∙_, ap, subst}
 use mathlib.Core.Logic.{inl, inr, ⊎-elim, by-cases}
 use mathlib.Core.Bool.{Bool, not, _&&_, and-comm, true≢false}
@@ -15,7 +15,7 @@ use lib.ListN.{length, getD, set, length-append, length-set}
 use lib.Seq.{getD-set-same, getD-set-other}
 use Rattle.math.specs.Members.{_∈_, keep, without, rising-none, rising-more, Distinct}
 use Rattle.math.specs.MembersLaws.{by-test, ∈-keep, keep-∈, keep-append, keep-ext, keep-keep, distinct-keep, without-∈, without-absent, rising-without, rising-append, rising-distinct, length-without}
-use Rattle.math.specs.Xor.{_⊕_, xor, ⊕-zero, zero-⊕, ⊕-self}
+use Rattle.math.specs.Xor.{_⊕_, xor, ⊕-zero}
 use Rattle.math.specs.Sums.{xorOver, only}
 use Rattle.math.specs.SumsLaws.{only-true, only-false, only-zero, xorOver-append, xorOver-keep, xorOver-one, xorOver-split}
 use Rattle.plan.specs.Layout.{Layout, Valid, top, bottom}
@@ -24,7 +24,7 @@ use Rattle.code.specs.Codewords.{syndrome}
 use Rattle.code.specs.Checks.{update}
 use Rattle.code.specs.Laws.Basics.{distinct-places, top≢bottom, meets-row, meets-true, true-meets, syndrome-ext, syndrome-add}
 use Rattle.code.specs.Laws.Settle.{update-same, update-other}
-use Rattle.tables.specs.Picture.{codeOf, onRow, Picture}
+use Rattle.tables.specs.Picture.{codeOf, onRow, Counted, Picture}
 
 -- ---- a symbol changes
 
@@ -152,80 +152,59 @@ touched-by L c x op {old} z h r =
     (λ e. rw (only-true x e) (h .on r (true-meets L c r e)))
     (λ e. rw (only-false x e) (h .off r (λ m. true≢false (sym (meets-true L c m) ∙ e)) ∙ sym (z (getD old r 0))))
 
--- ---- the picture
+-- ---- the tables
 
--- noting: c joins the erasures from above, its symbol becomes 0
-pub picture-more : (L : Layout) (c : ℕ) {E : List ℕ} {u : ℕ → ℕ} {sum left code : List ℕ} (sum' left' code' : List ℕ)
-    → Picture L E u sum left code → c ∈ places L → ((d : ℕ) → d ∈ E → d < c)
-    → Touched L c (λ y. y ⊕ u c) sum sum' → Touched L c (λ y. y + 1) left left' → Touched L c (λ y. y ⊕ codeOf (L .t) c) code code'
-    → Picture L (E ++ (c ∷ [])) (update u c 0) sum' left' code'
-picture-more L c {E} {u} {sum} {left} {code} sum' left' code' P m above s l k =
+-- noting: c joins the erasures from above
+pub counted-more : (L : Layout) (c : ℕ) {E left code : List ℕ} (left' code' : List ℕ) → Counted L E left code → c ∈ places L → ((d : ℕ) → d ∈ E → d < c)
+    → Touched L c (λ y. y + 1) left left' → Touched L c (λ y. y ⊕ codeOf (L .t) c) code code' → Counted L (E ++ (c ∷ [])) left' code'
+counted-more L c {E} {left} {code} left' code' C m above l k =
     record {
-      sum-long = s .long ∙ P .sum-long;
-      left-long = l .long ∙ P .left-long;
-      code-long = k .long ∙ P .code-long;
+      left-long = l .long ∙ C .left-long;
+      code-long = k .long ∙ C .code-long;
       erased = record {
-        rising = rising-append (P .erased .rising) (rising-more (λ d e. absurd (not-nil e)) rising-none)
+        rising = rising-append (C .erased .rising) (rising-more (λ d e. absurd (not-nil e)) rising-none)
             (λ a b i j. subst (λ z. a < z) (sym (List·Memᴰ·eq-of-singleton j)) (above a i));
-        inside = λ d i. ⊎-elim (P .erased .inside d) (λ j. Memᴰ·cast (List·Memᴰ·eq-of-singleton j) m) (List·Memᴰ·append-cases E i);
+        inside = λ d i. ⊎-elim (C .erased .inside d) (λ j. Memᴰ·cast (List·Memᴰ·eq-of-singleton j) m) (List·Memᴰ·append-cases E i);
       };
-      byte = λ d. by-cases (ℕ-discrete d c) (λ e. rw (e, update-same u c 0) (omega arith)) (λ n. rw (update-other u c 0 n) (P .byte d));
-      blank = λ d i. by-cases (ℕ-discrete d c) (λ e. rw e (update-same u c 0))
-          (λ n. update-other u c 0 n ∙ P .blank d (⊎-elim (λ j. j) (λ j. absurd (n (List·Memᴰ·eq-of-singleton j))) (List·Memᴰ·append-cases E i)));
-      sums = λ r h. touched-by L c (u c) _⊕_ ⊕-zero s r ∙ ap (λ y. y ⊕ only (meets L c r) (u c)) (P .sums r h)
-          ∙ sym (syndrome-change L u (update u c 0) c (u c) r m (update-xor u c (u c) 0 (sym (⊕-self (u c)))));
-      lefts = λ r h. touched-by L c 1 _+_ add-zero l r ∙ ap (λ y. y + only (meets L c r) 1) (P .lefts r h) ∙ sym (length-onRow-add L E c r);
-      codes = λ r h. touched-by L c (codeOf (L .t) c) _⊕_ ⊕-zero k r ∙ ap (λ y. y ⊕ only (meets L c r) (codeOf (L .t) c)) (P .codes r h)
+      lefts = λ r h. touched-by L c 1 _+_ add-zero l r ∙ ap (λ y. y + only (meets L c r) 1) (C .lefts r h) ∙ sym (length-onRow-add L E c r);
+      codes = λ r h. touched-by L c (codeOf (L .t) c) _⊕_ ⊕-zero k r ∙ ap (λ y. y ⊕ only (meets L c r) (codeOf (L .t) c)) (C .codes r h)
           ∙ sym (xor-onRow-add L E c r (codeOf (L .t)));
     }
 
--- settling: c leaves the erasures, its symbol becomes x
+-- the same by stores at the top row and then at the bottom row
+pub counted-add : (L : Layout) → Valid L → (c : ℕ) {E left code : List ℕ} → Counted L E left code → (left₁ left₂ code₁ code₂ : List ℕ)
+    → c ∈ places L → ((d : ℕ) → d ∈ E → d < c)
+    → left₁ ≡ set left (top L c) (getD left (top L c) 0 + 1) → left₂ ≡ set left₁ (bottom L c) (getD left₁ (bottom L c) 0 + 1)
+    → code₁ ≡ set code (top L c) (getD code (top L c) 0 ⊕ codeOf (L .t) c)
+    → code₂ ≡ set code₁ (bottom L c) (getD code₁ (bottom L c) 0 ⊕ codeOf (L .t) c)
+    → Counted L (E ++ (c ∷ [])) left₂ code₂
+counted-add L ok c {E} {left} {code} C left₁ left₂ code₁ code₂ m above l l' k k' =
+    counted-more L c left₂ code₂ C m above
+    (touched L ok c (λ y. y + 1) left left₁ left₂ (C .left-long) l l')
+    (touched L ok c (λ y. y ⊕ codeOf (L .t) c) code code₁ code₂ (C .code-long) k k')
+
+-- settling: c leaves the erasures, and x is added to its symbol
 pub picture-less : (L : Layout) (c x : ℕ) {E : List ℕ} {u : ℕ → ℕ} {sum left code : List ℕ} (sum' left' code' : List ℕ)
-    → Picture L E u sum left code → c ∈ E → x < 256
+    → Picture L E u sum left code → c ∈ E → u c ⊕ x < 256
     → Touched L c (λ y. y ⊕ x) sum sum' → Touched L c (λ y. y - 1) left left' → Touched L c (λ y. y ⊕ codeOf (L .t) c) code code'
-    → Picture L (without c E) (update u c x) sum' left' code'
+    → Picture L (without c E) (update u c (u c ⊕ x)) sum' left' code'
 picture-less L c x {E} {u} {sum} {left} {code} sum' left' code' P m b s l k =
-    let d = rising-distinct (P .erased .rising) in
+    let C = P .counted in
+    let d = rising-distinct (C .erased .rising) in
     record {
       sum-long = s .long ∙ P .sum-long;
-      left-long = l .long ∙ P .left-long;
-      code-long = k .long ∙ P .code-long;
-      erased = record {
-        rising = rising-without c (P .erased .rising);
-        inside = λ a i. P .erased .inside a (without-∈ c E i .0);
-      };
-      byte = λ a. by-cases (ℕ-discrete a c) (λ e. rw (e, update-same u c x) b) (λ n. rw (update-other u c x n) (P .byte a));
-      blank = λ a i. let o = without-∈ c E i in update-other u c x (o .1) ∙ P .blank a (o .0);
+      byte = λ a. by-cases (ℕ-discrete a c) (λ e. rw (e, update-same u c (u c ⊕ x)) b) (λ n. rw (update-other u c (u c ⊕ x) n) (P .byte a));
       sums = λ r h. touched-by L c x _⊕_ ⊕-zero s r ∙ ap (λ y. y ⊕ only (meets L c r) x) (P .sums r h)
-          ∙ sym (syndrome-change L u (update u c x) c x r (P .erased .inside c m) (update-xor u c x x (rw (P .blank c m) (sym (zero-⊕ x)))));
-      lefts = λ r h. touched-by L c 1 _-_ sub-zero l r ∙ ap (λ y. y - only (meets L c r) 1) (P .lefts r h) ∙ sym (length-onRow-without L E c r d m);
-      codes = λ r h. touched-by L c (codeOf (L .t) c) _⊕_ ⊕-zero k r ∙ ap (λ y. y ⊕ only (meets L c r) (codeOf (L .t) c)) (P .codes r h)
-          ∙ sym (xor-onRow-without L E c r (codeOf (L .t)) d m);
+          ∙ sym (syndrome-change L u (update u c (u c ⊕ x)) c x r (C .erased .inside c m) (update-xor u c x (u c ⊕ x) refl));
+      counted = record {
+        left-long = l .long ∙ C .left-long;
+        code-long = k .long ∙ C .code-long;
+        erased = record {
+          rising = rising-without c (C .erased .rising);
+          inside = λ a i. C .erased .inside a (without-∈ c E i .0);
+        };
+        lefts = λ r h. touched-by L c 1 _-_ sub-zero l r ∙ ap (λ y. y - only (meets L c r) 1) (C .lefts r h) ∙ sym (length-onRow-without L E c r d m);
+        codes = λ r h. touched-by L c (codeOf (L .t) c) _⊕_ ⊕-zero k r ∙ ap (λ y. y ⊕ only (meets L c r) (codeOf (L .t) c)) (C .codes r h)
+            ∙ sym (xor-onRow-without L E c r (codeOf (L .t)) d m);
+      };
     }
-
--- the same by stores at the top row and then at the bottom row: what `add`, `put_in` and `take_out` do, called for each of the two
-module _ (L : Layout) (ok : Valid L) (c : ℕ) {E : List ℕ} {u : ℕ → ℕ} {sum left code : List ℕ} (P : Picture L E u sum left code)
-    (sum₁ sum₂ left₁ left₂ code₁ code₂ : List ℕ) where
-  pub picture-add : c ∈ places L → ((d : ℕ) → d ∈ E → d < c)
-      → sum₁ ≡ set sum (top L c) (getD sum (top L c) 0 ⊕ u c) → sum₂ ≡ set sum₁ (bottom L c) (getD sum₁ (bottom L c) 0 ⊕ u c)
-      → left₁ ≡ set left (top L c) (getD left (top L c) 0 + 1) → left₂ ≡ set left₁ (bottom L c) (getD left₁ (bottom L c) 0 + 1)
-      → code₁ ≡ set code (top L c) (getD code (top L c) 0 ⊕ codeOf (L .t) c)
-      → code₂ ≡ set code₁ (bottom L c) (getD code₁ (bottom L c) 0 ⊕ codeOf (L .t) c)
-      → Picture L (E ++ (c ∷ [])) (update u c 0) sum₂ left₂ code₂
-  picture-add m above s s' l l' k k' =
-      picture-more L c sum₂ left₂ code₂ P m above
-      (touched L ok c (λ y. y ⊕ u c) sum sum₁ sum₂ (P .sum-long) s s')
-      (touched L ok c (λ y. y + 1) left left₁ left₂ (P .left-long) l l')
-      (touched L ok c (λ y. y ⊕ codeOf (L .t) c) code code₁ code₂ (P .code-long) k k')
-
-  pub picture-remove : (x : ℕ) → c ∈ E → x < 256
-      → sum₁ ≡ set sum (top L c) (getD sum (top L c) 0 ⊕ x) → sum₂ ≡ set sum₁ (bottom L c) (getD sum₁ (bottom L c) 0 ⊕ x)
-      → left₁ ≡ set left (top L c) (getD left (top L c) 0 - 1) → left₂ ≡ set left₁ (bottom L c) (getD left₁ (bottom L c) 0 - 1)
-      → code₁ ≡ set code (top L c) (getD code (top L c) 0 ⊕ codeOf (L .t) c)
-      → code₂ ≡ set code₁ (bottom L c) (getD code₁ (bottom L c) 0 ⊕ codeOf (L .t) c)
-      → Picture L (without c E) (update u c x) sum₂ left₂ code₂
-  picture-remove x m b s s' l l' k k' =
-      picture-less L c x sum₂ left₂ code₂ P m b
-      (touched L ok c (λ y. y ⊕ x) sum sum₁ sum₂ (P .sum-long) s s')
-      (touched L ok c (λ y. y - 1) left left₁ left₂ (P .left-long) l l')
-      (touched L ok c (λ y. y ⊕ codeOf (L .t) c) code code₁ code₂ (P .code-long) k k')

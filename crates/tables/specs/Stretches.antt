@@ -1,5 +1,5 @@
--- Marked places in a row, whose top rows and bottom rows follow on each other: they are noted in three sweeps over the tables.
--- Main results: stretch-run (how far the rows follow), seen-stretch (the sweeps note the places one after the other), ones-word (a word of ones).
+-- Marked places in a row, whose top rows and bottom rows follow on each other: they are noted in two sweeps over the tables.
+-- Main results: stretch-low and stretch-high (how far the rows follow), run-notes (the sweeps note the places), ones-due (a word of ones).
 use mathlib.Core.Path.{_≡_, refl, sym, _∙_, ap, subst}
 use mathlib.Core.Bool.{true}
 use mathlib.Core.List.{List}
@@ -9,8 +9,7 @@ use native.Mathlib.Numerals.{add-one}
 use native.Mathlib.Omega.{arith}
 use borrow.Author.Tests.{leb-true}
 use lib.Dec.{leb}
-use lib.ListN.{length, getD, set, take, drop, length-drop}
-use lib.Seq.{getD-take, getD-drop, length-take-le}
+use lib.ListN.{getD, set}
 use Rattle.math.specs.Xor.{_⊕_}
 use Rattle.plan.specs.Layout.{bottomRow}
 use Rattle.code.specs.Codewords.{bitOf}
@@ -18,9 +17,11 @@ use Rattle.code.specs.Marks.{mark}
 use Rattle.code.specs.Laws.MarksLaws.{bit-not}
 use Rattle.tables.specs.Lowest.{bit-beyond}
 use Rattle.tables.specs.Words.{Word}
-use Rattle.tables.specs.Sweeps.{Apart, Room, Swept, withSymbol, swept-none, swept-more, swept-same}
+use Rattle.tables.specs.Sizes.{∈-sized}
+use Rattle.tables.specs.Sweeps.{Apart, Room, Swept, swept-none, swept-more, swept-same}
 use Rattle.tables.specs.Spots.{Stands, Reached, bottom-low, bottom-high}
-use Rattle.tables.specs.Scan.{Lent, Seen, Next, Ready, Noted, noted, next-here, next-noted, marked-inside, only-one, seen-at, seen-long}
+use Rattle.tables.specs.Counting.{All, Due, Notes, Ready, Noted, noted, due-inside, due-here, due-long, notes-none, notes-at, notes-then, noted-notes}
+use Rattle.tables.specs.Scan.{Lent, Scanned, toNote, erased-noted, scanned-notes, ∈-noted, marked-inside, only-one}
 
 -- the changes at the i-th of the places: of the erasures left, and of the codes
 abbrev pub oneMore : ℕ → ℕ → ℕ
@@ -58,13 +59,12 @@ stretch-apart {t} {p} {k} {m} S h =
     record { order = omega (arith, S .within); end = omega (arith, S .straight (m - 1) (omega arith), mod-lt (k + (m - 1) + t - p) g) }
 
 -- what noting them does
-pub record Run (t p j k : ℕ) (symbols sum left code sum' left' code' : List ℕ) : Type 0 where
-  pub sums : Swept (withSymbol symbols) k (bottomRow t p k) (length symbols) sum sum'
-  pub lefts : Swept oneMore k (bottomRow t p k) (length symbols) left left'
-  pub codes : Swept (withCode (j * 2048 + k)) k (bottomRow t p k) (length symbols) code code'
+pub record Run (t p j k m : ℕ) (left code left' code' : List ℕ) : Type 0 where
+  pub lefts : Swept oneMore k (bottomRow t p k) m left left'
+  pub codes : Swept (withCode (j * 2048 + k)) k (bottomRow t p k) m code code'
 
 -- what the sweeps need, at rows h and b and code q
-module _ {t p j k m : ℕ} {sum left code : List ℕ} (E : Ready t p j k sum left code) (X : Stretch t p k m) where
+module _ {t p j k m : ℕ} {left code : List ℕ} (E : Ready t p j k left code) (X : Stretch t p k m) where
   pub run-apart : {h b l : ℕ} → 0 < m → h ≡ k → b ≡ bottomRow t p k → l ≡ 2 * t → Apart h b m l
   run-apart g eh eb el = let A = stretch-apart X g in record { order = omega (arith, A .order); end = omega (arith, A .end) }
 
@@ -74,175 +74,119 @@ module _ {t p j k m : ℕ} {sum left code : List ℕ} (E : Ready t p j k sum lef
   pub run-room : Room left
   run-room = record { each = λ r h. E .room r (omega (arith, E .left-long)) }
 
-pub run : {t p j k h b q : ℕ} {symbols sum left code sum' left' code' : List ℕ} → h ≡ k → b ≡ bottomRow t p k → q ≡ j * 2048 + k
-    → Swept (withSymbol symbols) h b (length symbols) sum sum' → Swept oneMore h b (length symbols) left left'
-    → Swept (withCode q) h b (length symbols) code code' → Run t p j k symbols sum left code sum' left' code'
-run eh eb eq s l c =
-    record {
-      sums = rw (eh, eb) at s;
-      lefts = rw (eh, eb) at l;
-      codes = rw (eh, eb, eq) at c;
-    }
-
--- every place from c to e is marked and not below a
-pub record Ones (marks : List ℕ) (a c e : ℕ) : Type 0 where
-  pub late : a ≤ c
-  pub each : (d : ℕ) → c ≤ d → d < e → mark marks d ≡ 1
+pub run : {t p j k m h b q : ℕ} {left code left' code' : List ℕ} → h ≡ k → b ≡ bottomRow t p k → q ≡ j * 2048 + k
+    → Swept oneMore h b m left left' → Swept (withCode q) h b m code code' → Run t p j k m left code left' code'
+run eh eb eq l c = record { lefts = rw (eh, eb) at l; codes = rw (eh, eb, eq) at c }
 
 -- the first i of them noted, one after the other
-record Done (n t : ℕ) (shifts block marks : List ℕ) (a c p j k i : ℕ) (symbols sum left code : List ℕ) : Type 0 where
-  sum' : List ℕ
+record Done (n t : ℕ) (shifts : List ℕ) (c p j k i : ℕ) (left code : List ℕ) : Type 0 where
   left' : List ℕ
   code' : List ℕ
-  sums : Swept (withSymbol symbols) k (bottomRow t p k) i sum sum'
   lefts : Swept oneMore k (bottomRow t p k) i left left'
   codes : Swept (withCode (j * 2048 + k)) k (bottomRow t p k) i code code'
-  seen : Seen n t shifts block marks a (c + i) sum' left' code'
+  notes : Notes n t shifts c (c + i) left code left' code'
 
-module _ {n t : ℕ} {shifts block marks : List ℕ} {a c j begin end p m : ℕ} {sum left code : List ℕ} (lent : Lent n t shifts block marks)
-    (S : Seen n t shifts block marks a c sum left code) (O : Ones marks a c (c + m)) (R : Reached n t shifts c j begin end p)
-    (X : Stretch t p (c - begin) m) (some : 0 < m) where
+module _ {n t : ℕ} {shifts : List ℕ} {c j begin end p m : ℕ} {left code : List ℕ} (D : Due n t shifts c (c + m) left code)
+    (R : Reached n t shifts c j begin end p) (X : Stretch t p (c - begin) m) (some : 0 < m) where
   pub stretch-fits : c + m ≤ n * t
-  stretch-fits =
-      let h = marked-inside lent (c + (m - 1)) (O .each (c + (m - 1)) (omega arith) (omega arith)) in
-      omega arith
+  stretch-fits = due-inside D (omega arith)
 
-  pub stretch-ready : Ready t p j (c - begin) sum left code
-  stretch-ready = next-here first R (omega (arith, R .ends, R .passed, X .within))
+  pub stretch-ready : Ready t p j (c - begin) left code
+  stretch-ready = due-here D (omega arith) R (omega (arith, R .ends, R .passed, X .within))
+
+  k : ℕ
+  k = c - begin
+
+  b : ℕ
+  b = bottomRow t p (c - begin)
+
+  Here : ℕ → Type 0
+  Here i = Done n t shifts c p j (c - begin) i left code
+
+  none : Here 0
+  unfolding Here
+  none =
+      record {
+        left' = left;
+        code' = code;
+        lefts = swept-none oneMore (c - begin) (bottomRow t p (c - begin)) left;
+        codes = swept-none (withCode (j * 2048 + (c - begin))) (c - begin) (bottomRow t p (c - begin)) code;
+        notes = notes-at (omega arith) notes-none;
+      }
+
+  more : (i : ℕ) → i < m → Here i → Here (i + 1)
+  unfolding Here k b
+  more i h O =
+      record {
+        left' = left₂;
+        code' = code₂;
+        lefts = swept-more left₁ left₂ (O .lefts) high (low (due-long D .0)) refl refl;
+        codes = swept-more code₁ code₂ (O .codes) high (low (due-long D .1)) refl refl;
+        notes = notes-at (omega arith) (notes-then (omega arith) (omega arith) (O .notes) (noted-notes (D .sized) st note));
+      }
     where
-      first : Next n t shifts block marks a c sum left code
-      first = record { lent = lent; seen = S; inside = omega (arith, stretch-fits); marked = O .each c (omega arith) (omega arith) }
+      A : Apart (c - begin) (bottomRow t p (c - begin)) m (2 * t)
+      A = stretch-apart X some
 
-  module _ (symbols : List ℕ) (its : (i : ℕ) → i < m → getD symbols i 0 ≡ getD block (c + i) 0) where
-    k : ℕ
-    k = c - begin
+      high : k + i < b
+      high = omega (arith, A .order)
 
-    b : ℕ
-    b = bottomRow t p (c - begin)
+      low : {l : ℕ} → l ≡ 2 * t → b + i < l
+      low e = omega (arith, A .end)
 
-    Here : ℕ → Type 0
-    Here i = Done n t shifts block marks a c p j (c - begin) i symbols sum left code
+      q : ℕ
+      q = j * 2048 + (c - begin) + i
 
-    none : Here 0
-    unfolding Here
-    none =
-        record {
-          sum' = sum;
-          left' = left;
-          code' = code;
-          sums = swept-none (withSymbol symbols) (c - begin) (bottomRow t p (c - begin)) sum;
-          lefts = swept-none oneMore (c - begin) (bottomRow t p (c - begin)) left;
-          codes = swept-none (withCode (j * 2048 + (c - begin))) (c - begin) (bottomRow t p (c - begin)) code;
-          seen = seen-at (omega arith) S;
-        }
+      left₁ : List ℕ
+      left₁ = set (O .left') (k + i) (getD (O .left') (k + i) 0 + 1)
 
-    more : (i : ℕ) → i < m → Here i → Here (i + 1)
-    unfolding Here k b
-    more i h D =
-        record {
-          sum' = sum₂;
-          left' = left₂;
-          code' = code₂;
-          sums = swept-more sum₁ sum₂ (D .sums) high (low (L .0)) refl refl;
-          lefts = swept-more left₁ left₂ (D .lefts) high (low (L .1)) refl refl;
-          codes = swept-more code₁ code₂ (D .codes) high (low (L .2)) refl refl;
-          seen = seen-at (omega arith) (next-noted N st late note);
-        }
-      where
-        L : (length sum ≡ 2 * t) × (length left ≡ 2 * t) × (length code ≡ 2 * t)
-        L = seen-long S
+      left₂ : List ℕ
+      left₂ = set left₁ (b + i) (getD left₁ (b + i) 0 + 1)
 
-        A : Apart (c - begin) (bottomRow t p (c - begin)) m (2 * t)
-        A = stretch-apart X some
+      code₁ : List ℕ
+      code₁ = set (O .code') (k + i) (getD (O .code') (k + i) 0 ⊕ q)
 
-        high : k + i < b
-        high = omega (arith, A .order)
+      code₂ : List ℕ
+      code₂ = set code₁ (b + i) (getD code₁ (b + i) 0 ⊕ q)
 
-        low : {l : ℕ} → l ≡ 2 * t → b + i < l
-        low e = omega (arith, A .end)
+      st : Stands t (c + i) j (k + i)
+      st = record { whole = omega (arith, R .begins, R .passed); within = omega (arith, X .within) }
 
-        late : a ≤ c + i
-        late = omega (arith, O .late)
+      plain : Noted t p j (k + i) (O .left') (O .code') left₂ code₂
+      plain = let e : q ≡ j * 2048 + (k + i) = omega arith in noted refl (sym (X .straight i h)) e refl refl refl refl
 
-        x : ℕ
-        x = getD symbols i 0
+      note : Noted t (getD shifts j 0) j (k + i) (O .left') (O .code') left₂ code₂
+      note = subst (λ z. Noted t z j (k + i) (O .left') (O .code') left₂ code₂) (R .shift) plain
 
-        q : ℕ
-        q = j * 2048 + (c - begin) + i
+  upto : (i : ℕ) → i ≤ m → Here i
+  upto zero h = none
+  upto (suc i) h = subst Here (add-one i) (more i (omega arith) (upto i (omega arith)))
 
-        sum₁ : List ℕ
-        sum₁ = set (D .sum') (k + i) (getD (D .sum') (k + i) 0 ⊕ x)
+  -- the sweeps note them all
+  pub run-notes : {left' code' : List ℕ} → Run t p j (c - begin) m left code left' code' → Notes n t shifts c (c + m) left code left' code'
+  unfolding Here
+  run-notes {left'} {code'} U =
+      let O : Done n t shifts c p j (c - begin) m left code = upto m (omega arith) in
+      subst (λ z. Notes n t shifts c (c + m) left code z code') (swept-same (O .lefts) (U .lefts))
+      (subst (λ z. Notes n t shifts c (c + m) left code (O .left') z) (swept-same (O .codes) (U .codes)) (O .notes))
 
-        sum₂ : List ℕ
-        sum₂ = set sum₁ (b + i) (getD sum₁ (b + i) 0 ⊕ x)
+-- a word of ones: all its places are to be noted
+module _ {n t : ℕ} {shifts marks : List ℕ} {a c w : ℕ} {left code : List ℕ} (lent : Lent n t shifts marks) (S : Scanned n t shifts marks a c left code)
+    (W : Word marks a c w) (e : w ≡ 2 ^ 64 - 1) where
+  bit : (b : ℕ) → b < 64 → (leb a (c + b) ≡ true) × (mark marks (c + b) ≡ 1)
+  bit b h =
+      only-one (leb a (c + b)) (mark marks (c + b))
+      (sym (W .each b h) ∙ ap (bitOf b) e ∙ bit-not 64 b 0 h (omega arith) ∙ ap (λ y. 1 - y) (bit-beyond 0 b 0 (omega arith) (omega arith)))
 
-        left₁ : List ℕ
-        left₁ = set (D .left') (k + i) (getD (D .left') (k + i) 0 + 1)
+  ones-all : All (toNote n t shifts marks a) c (c + 64)
+  ones-all d h l =
+      let q : c + (d - c) ≡ d = omega arith in
+      let o = bit (d - c) (omega arith) in
+      let m : mark marks d ≡ 1 = ap (mark marks) (sym q) ∙ o .1 in
+      ∈-noted n t shifts marks a (∈-sized (lent .sized) (marked-inside lent d m)) m (omega (arith, leb-true a (c + (d - c)) (o .0)))
 
-        left₂ : List ℕ
-        left₂ = set left₁ (b + i) (getD left₁ (b + i) 0 + 1)
+  pub ones-due : Due n t shifts c (c + 64) left code
+  ones-due = record { sized = lent .sized; E = toNote n t shifts marks a; erased = erased-noted n t shifts marks a; all = ones-all; seen = S .seen }
 
-        code₁ : List ℕ
-        code₁ = set (D .code') (k + i) (getD (D .code') (k + i) 0 ⊕ q)
-
-        code₂ : List ℕ
-        code₂ = set code₁ (b + i) (getD code₁ (b + i) 0 ⊕ q)
-
-        st : Stands t (c + i) j (k + i)
-        st = record { whole = omega (arith, R .begins, R .passed); within = omega (arith, X .within) }
-
-        N : Next n t shifts block marks a (c + i) (D .sum') (D .left') (D .code')
-        N = record { lent = lent; seen = D .seen; inside = omega (arith, stretch-fits); marked = O .each (c + i) (omega arith) (omega arith) }
-
-        plain : Noted t p x j (k + i) (D .sum') (D .left') (D .code') sum₂ left₂ code₂
-        plain = let e : q ≡ j * 2048 + (k + i) = omega arith in noted refl (sym (X .straight i h)) e refl refl refl refl refl refl
-
-        note : Noted t (getD shifts j 0) (getD block (c + i) 0) j (k + i) (D .sum') (D .left') (D .code') sum₂ left₂ code₂
-        note =
-            subst (λ z. Noted t z (getD block (c + i) 0) j (k + i) (D .sum') (D .left') (D .code') sum₂ left₂ code₂) (R .shift)
-            (subst (λ z. Noted t p z j (k + i) (D .sum') (D .left') (D .code') sum₂ left₂ code₂) (its i h) plain)
-
-    upto : (i : ℕ) → i ≤ m → Here i
-    upto zero h = none
-    upto (suc i) h = subst Here (add-one i) (more i (omega arith) (upto i (omega arith)))
-
-    -- the sweeps note them all
-    pub seen-stretch : {sum' left' code' : List ℕ} → length symbols ≡ m → Run t p j (c - begin) symbols sum left code sum' left' code'
-        → Seen n t shifts block marks a (c + m) sum' left' code'
-    unfolding Here
-    seen-stretch {sum'} {left'} {code'} e U =
-        let D : Done n t shifts block marks a c p j (c - begin) m symbols sum left code = upto m (omega arith) in
-        let e₁ = swept-same (D .sums) (rw e at (U .sums)) in
-        let e₂ = swept-same (D .lefts) (rw e at (U .lefts)) in
-        let e₃ = swept-same (D .codes) (rw e at (U .codes)) in
-        subst (λ z. Seen n t shifts block marks a (c + m) z left' code') e₁
-        (subst (λ z. Seen n t shifts block marks a (c + m) (D .sum') z code') e₂
-        (subst (λ z. Seen n t shifts block marks a (c + m) (D .sum') (D .left') z) e₃ (D .seen)))
-
--- the symbols as they are lent
-pub stretch-symbols : (block : List ℕ) (c e m : ℕ) → e ≡ c + m → (i : ℕ) → i < m → getD (take (e - c) (drop c block)) i 0 ≡ getD block (c + i) 0
-stretch-symbols block c e m q i h = getD-take (e - c) (drop c block) i 0 (omega arith) ∙ getD-drop c block i 0
-
-pub stretch-long : (block : List ℕ) (c m : ℕ) → c + m ≤ length block → length (take (c + m - c) (drop c block)) ≡ m
-stretch-long block c m h =
-    let e : c + m - c ≡ m = omega arith in
-    length-take-le (c + m - c) (drop c block) (rw (length-drop c block) (omega arith)) ∙ e
-
-pub stretch-of : {t p k m : ℕ} (l : ℕ) → l ≡ m → Stretch t p k m → Stretch t p k l
-stretch-of {t} {p} {k} l e X = subst (λ y. Stretch t p k y) (sym e) X
-
--- a word of ones
-pub ones-word : {marks : List ℕ} {a c w : ℕ} → Word marks a c w → w ≡ 2 ^ 64 - 1 → Ones marks a c (c + 64)
-ones-word {marks} {a} {c} {w} W e =
-    record {
-      late = let h = leb-true a (c + 0) (bit 0 (omega arith) .0) in omega arith;
-      each = λ d h l. let q : c + (d - c) ≡ d = omega arith in ap (mark marks) (sym q) ∙ bit (d - c) (omega arith) .1;
-    }
-  where
-    bit : (b : ℕ) → b < 64 → (leb a (c + b) ≡ true) × (mark marks (c + b) ≡ 1)
-    bit b h =
-        only-one (leb a (c + b)) (mark marks (c + b))
-        (sym (W .each b h) ∙ ap (bitOf b) e ∙ bit-not 64 b 0 h (omega arith) ∙ ap (λ y. 1 - y) (bit-beyond 0 b 0 (omega arith) (omega arith)))
-
-pub ones-part : {marks : List ℕ} {a c e : ℕ} (c' e' : ℕ) → c ≤ c' → e' ≤ e → Ones marks a c e → Ones marks a c' e'
-ones-part c' e' h l O = record { late = omega (arith, O .late); each = λ d x y. O .each d (omega arith) (omega arith) }
+  pub ones-noted : {left' code' : List ℕ} → Notes n t shifts c (c + 64) left code left' code' → Scanned n t shifts marks a (c + 64) left' code'
+  ones-noted N = scanned-notes S ones-all N

@@ -21,10 +21,6 @@ pub record Mapped (f : ℕ → ℕ → ℕ) (old new : List ℕ) : Type 0 where
 abbrev pub withSymbol : List ℕ → ℕ → ℕ → ℕ
 withSymbol src i x = x ⊕ getD src i 0
 
--- it is put in the place of what was there
-abbrev pub copied : List ℕ → ℕ → ℕ → ℕ
-copied src i x = getD src i 0
-
 -- the same below i
 pub record MappedTo (f : ℕ → ℕ → ℕ) (old : List ℕ) (i : ℕ) (new : List ℕ) : Type 0 where
   pub long : length new ≡ length old
@@ -208,7 +204,7 @@ swept-lent {f} {a} {b} {m} {old} part₁ mid part₂ new A q₁ X₁ q₂ X₂ =
 
 -- each entry can be raised
 pub record Room (s : List ℕ) : Type 0 where
-  pub each : (r : ℕ) → r < length s → getD s r 0 + 1 < 65536
+  pub each : (r : ℕ) → r < length s → getD s r 0 + 1 < 256
 
 pub room-part : (a m : ℕ) {s : List ℕ} → Room s → a + m ≤ length s → Room (take (a + m - a) (drop a s))
 room-part a m {s} R h =

@@ -36,23 +36,12 @@ pub fn add(sum: &mut [u8], r: Row, x: u8)
 }
 
 // One erasure more on the row: the place with code c.
-pub fn put_in(left: &mut [u16], code: &mut [u16], r: Row, c: Packed)
-    requires { ⌜ (r .0 < length (now left)) × (r .0 < length (now code)) × (getD (now left) (r .0) 0 + 1 < 65536) ⌝ }
+pub fn put_in(left: &mut [u8], code: &mut [u16], r: Row, c: Packed)
+    requires { ⌜ (r .0 < length (now left)) × (r .0 < length (now code)) × (getD (now left) (r .0) 0 + 1 < 256) ⌝ }
     ensures { λ _. ⌜ now (left .exit) ≡ set (now (left .entry)) (r .0) (getD (now (left .entry)) (r .0) 0 + 1) ⌝ }
     ensures { λ _. ⌜ now (code .exit) ≡ set (now (code .entry)) (r .0) (getD (now (code .entry)) (r .0) 0 ⊕ c .0) ⌝ }
 {
     let i = r.0 as usize;
     left[i] = left[i] + 1;
-    code[i] = code[i] ^ c.0;
-}
-
-// One erasure less on the row: the place with code c.
-pub fn take_out(left: &mut [u16], code: &mut [u16], r: Row, c: Packed)
-    requires { ⌜ (r .0 < length (now left)) × (r .0 < length (now code)) × (0 < getD (now left) (r .0) 0) ⌝ }
-    ensures { λ _. ⌜ now (left .exit) ≡ set (now (left .entry)) (r .0) (getD (now (left .entry)) (r .0) 0 - 1) ⌝ }
-    ensures { λ _. ⌜ now (code .exit) ≡ set (now (code .entry)) (r .0) (getD (now (code .entry)) (r .0) 0 ⊕ c .0) ⌝ }
-{
-    let i = r.0 as usize;
-    left[i] = left[i] - 1;
     code[i] = code[i] ^ c.0;
 }

@@ -5,13 +5,13 @@ use Rattle.cycle.proofs.strip.Statement.{statement}
 use Rattle.cycle.proofs.strip.Tie as tie
 
 picture-from-requires : tie.Need-picture-from-requires
-picture-from-requires c κs = let start = c .before .before .before .before .before .before .before .before .before .before .before in let room = start .pre .1 in (start .pre .0, (room .sum-long, room .left-long, room .code-long))
+picture-from-requires c κs = let start = c .before .before .before .before .before .before .before .before .before .before .before in let room = start .pre .1 .0 in (start .pre .0, (room .sum-long, room .left-long, room .code-long))
 
 peel-requires : tie.Need-peel-requires
 peel-requires c κs =
     let start = c .before .before .before .before .before .before .before .before .before .before .before .before .before .before .before .before .before .before .before .before .before .before .before .before in
-    let room = start .pre .1 in
-    peelable (start .pre .0) (c .before .before .before .before .before .before .before .before .before .before .before .before .picture-from .ensures) (room .queue-long) (room .place-long) (room .value-long)
+    let room = start .pre .1 .0 in
+    peelable (start .pre .0) (c .before .before .before .before .before .before .before .before .before .before .before .before .picture-from .ensures) (start .pre .1 .1) (room .place-long) (room .value-long)
 
 same-length : tie.Need-same-length
 same-length c = c .before .before .before .before .before .before .before .before .before .before .before .before .peel .kept .1 .1 .1 .0 ∙ c .before .before .before .before .before .before .before .before .before .before .before .before .before .before .before .before .before .before .before .before .before .before .before .before .before .picture-from .kept .1 .1 .1 .1 .1 .0

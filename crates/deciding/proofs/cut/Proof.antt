@@ -1,6 +1,7 @@
 -- The rows of the tables are at their fronts.
 use borrow.Author.Needs.{needs}
-use Rattle.deciding.specs.Attempts.{front-long, zeros-room, cut-tables}
+use Rattle.tables.specs.Zeros.{front-long, zeros-room}
+use Rattle.deciding.specs.Attempts.{cut-tables}
 use Rattle.deciding.proofs.cut.Statement.{statement}
 use Rattle.deciding.proofs.cut.Tie as tie
 
@@ -14,37 +15,31 @@ slice-aggregate-attempt : tie.Need-slice-aggregate-attempt
 slice-aggregate-attempt c = search needs
 
 slice-relend-prefix-attempt-2 : tie.Need-slice-relend-prefix-attempt-2
-slice-relend-prefix-attempt-2 c = zeros-room (c .before .before .before .before .before .before .before .before .before .before .before .before .pre .1 .left-zeros)
+slice-relend-prefix-attempt-2 c = zeros-room (c .before .before .before .before .before .before .before .before .before .before .before .pre .1 .left-zeros)
 
 slice-aggregate-attempt-2 : tie.Need-slice-aggregate-attempt-2
-slice-aggregate-attempt-2 c = front-long _ _ (zeros-room (c .before .before .before .before .before .before .before .before .before .before .before .before .before .pre .1 .left-zeros))
+slice-aggregate-attempt-2 c = front-long _ _ (zeros-room (c .before .before .before .before .before .before .before .before .before .before .before .before .pre .1 .left-zeros))
 
 slice-relend-prefix-attempt-3 : tie.Need-slice-relend-prefix-attempt-3
-slice-relend-prefix-attempt-3 c = zeros-room (c .before .before .before .before .before .before .before .before .before .before .before .before .before .pre .1 .code-zeros)
+slice-relend-prefix-attempt-3 c = zeros-room (c .before .before .before .before .before .before .before .before .before .before .before .before .pre .1 .code-zeros)
 
 slice-aggregate-attempt-3 : tie.Need-slice-aggregate-attempt-3
-slice-aggregate-attempt-3 c = front-long _ _ (zeros-room (c .before .before .before .before .before .before .before .before .before .before .before .before .before .before .pre .1 .code-zeros))
+slice-aggregate-attempt-3 c = front-long _ _ (zeros-room (c .before .before .before .before .before .before .before .before .before .before .before .before .before .pre .1 .code-zeros))
 
 slice-relend-prefix-attempt-4 : tie.Need-slice-relend-prefix-attempt-4
 slice-relend-prefix-attempt-4 c = search needs
 
 slice-aggregate-attempt-4 : tie.Need-slice-aggregate-attempt-4
-slice-aggregate-attempt-4 c = front-long _ _ (c .before .before .before .before .before .before .before .before .before .before .before .before .before .before .before .pre .1 .queue-room)
+slice-aggregate-attempt-4 c = front-long _ _ (c .before .before .before .before .before .before .before .before .before .before .before .before .before .before .pre .1 .place-room)
 
 slice-relend-prefix-attempt-5 : tie.Need-slice-relend-prefix-attempt-5
 slice-relend-prefix-attempt-5 c = search needs
 
 slice-aggregate-attempt-5 : tie.Need-slice-aggregate-attempt-5
-slice-aggregate-attempt-5 c = front-long _ _ (c .before .before .before .before .before .before .before .before .before .before .before .before .before .before .before .before .pre .1 .place-room)
-
-slice-relend-prefix-attempt-6 : tie.Need-slice-relend-prefix-attempt-6
-slice-relend-prefix-attempt-6 c = search needs
-
-slice-aggregate-attempt-6 : tie.Need-slice-aggregate-attempt-6
-slice-aggregate-attempt-6 c = front-long _ _ (c .before .before .before .before .before .before .before .before .before .before .before .before .before .before .before .before .before .pre .1 .value-room)
+slice-aggregate-attempt-5 c = front-long _ _ (c .before .before .before .before .before .before .before .before .before .before .before .before .before .before .before .pre .1 .value-room)
 
 attempt-requires : tie.Need-attempt-requires
-attempt-requires c κs = (c .before .before .before .before .before .before .before .before .before .before .before .before .before .before .before .before .before .before .pre .0, cut-tables (c .before .before .before .before .before .before .before .before .before .before .before .before .before .before .before .before .before .before .pre .1))
+attempt-requires c κs = (c .before .before .before .before .before .before .before .before .before .before .before .before .before .before .before .before .pre .0, cut-tables (c .before .before .before .before .before .before .before .before .before .before .before .before .before .before .before .before .pre .1))
 
 same-length : tie.Need-same-length
 same-length c = search needs
@@ -67,9 +62,6 @@ same-length-6 c = search needs
 same-length-7 : tie.Need-same-length-7
 same-length-7 c = search needs
 
-same-length-8 : tie.Need-same-length-8
-same-length-8 c = search needs
-
 returns : tie.Need-returns
 returns c = search needs
 
@@ -88,8 +80,6 @@ cut-spec =
     slice-aggregate-attempt-4
     slice-relend-prefix-attempt-5
     slice-aggregate-attempt-5
-    slice-relend-prefix-attempt-6
-    slice-aggregate-attempt-6
     attempt-requires
     same-length
     same-length-2
@@ -98,5 +88,4 @@ cut-spec =
     same-length-5
     same-length-6
     same-length-7
-    same-length-8
     returns)

@@ -1,7 +1,7 @@
--- Arrays of 64 entries hold the tables, and one of 128 bytes the marks.
+-- Arrays of 64 entries hold the tables.
 use borrow.Author.Needs.{needs}
 use native.Mathlib.Omega.{arith}
-use Rattle.parities.specs.Settling.{cut-arrays, few-marks}
+use Rattle.parities.specs.Settling.{cut-arrays}
 use Rattle.parities.proofs.fill_small.Statement.{statement}
 use Rattle.parities.proofs.fill_small.Tie as tie
 
@@ -23,11 +23,8 @@ slice-aggregate-cut-5 c = search needs
 slice-aggregate-cut-6 : tie.Need-slice-aggregate-cut-6
 slice-aggregate-cut-6 c = search needs
 
-slice-aggregate-cut-7 : tie.Need-slice-aggregate-cut-7
-slice-aggregate-cut-7 c = search needs
-
 cut-requires : tie.Need-cut-requires
-cut-requires c κs = (c .before .before .before .before .before .before .before .before .before .before .before .pre .0, cut-arrays 128 64 (few-marks 32 (c .before .before .before .before .before .before .before .before .before .before .before .pre .0 .sized) (c .before .before .before .before .before .before .before .before .before .before .before .pre .1)) (omega (arith, c .before .before .before .before .before .before .before .before .before .before .before .pre .1)))
+cut-requires c κs = (c .before .before .before .before .before .before .before .before .before .before .pre .0, cut-arrays 64 (omega (arith, c .before .before .before .before .before .before .before .before .before .before .pre .1)))
 
 same-length : tie.Need-same-length
 same-length c = search needs
@@ -45,7 +42,6 @@ fill-small-spec =
     slice-aggregate-cut-4
     slice-aggregate-cut-5
     slice-aggregate-cut-6
-    slice-aggregate-cut-7
     cut-requires
     same-length
     returns)

@@ -1,55 +1,59 @@
--- `peel` meets its contract: the loop's invariant is Peeling, and the rows that were not yet at the head get fewer. Assumes nothing.
-use native.Mathlib.Omega.{arith}
-use Prim.Native.Nat.{_*_, _-_}
-use Rattle.peel.specs.Peels.{Peeling, peelable-seed, peeling-start, peeling-step, peeling-less, peeling-long, peeling-end}
+-- `peel` meets its contract. Assumes nothing.
+use mathlib.Core.Path.{_∙_}
+use Rattle.peel.specs.Peels.{peelable-seed, peelable-ready}
 use Rattle.peel.proofs.peel.Statement.{statement}
 use Rattle.peel.proofs.peel.Tie as tie
 
-abbrev Inv-loop : tie.InvT-loop
-Inv-loop n t shifts sum₀ left₀ code₀ queue₀ place₀ value₀ tail₀ chains count₀ head₀ sum left code queue place value tail count head =
-    Peeling n t shifts sum₀ left₀ code₀ sum left code queue place value head tail count
-
-abbrev μ-loop : tie.MeasureT-loop
-μ-loop n t shifts sum₀ left₀ code₀ queue₀ place₀ value₀ tail₀ chains count₀ head₀ sum left code queue place value tail count head = 2 * t - head
-
-seed-requires : tie.Need-seed-requires Inv-loop μ-loop
+seed-requires : tie.Need-seed-requires
 seed-requires c κs = peelable-seed (c .before .before .before .before .before .before .before .before .before .pre)
 
-loop-holds : tie.Need-loop-holds Inv-loop μ-loop
-loop-holds c = peeling-start (c .before .before .before .before .before .before .before .before .before .before .before .before .pre) (c .before .before .seed .ensures) (c .before .before .seed .kept .1 .1 .0)
+drain-chains-requires : tie.Need-drain-chains-requires
+drain-chains-requires c κs = peelable-ready (c .before .before .before .before .before .before .before .before .before .before .before .before .before .before .before .before .before .before .before .pre) (c .before .before .before .before .before .before .before .before .before .seed .ensures) (c .before .before .before .before .before .before .before .before .before .seed .kept .1 .1 .0)
 
-step-requires : tie.Need-step-requires Inv-loop μ-loop
-step-requires c κs = (c .before .before .before .before .before .before .before .loop .inv .ready, c .before .before .before .before .before .before .loop-test .taken)
+same-length : tie.Need-same-length
+same-length c = c .before .before .before .before .before .before .before .before .before .before .before .before .drain-chains .kept .1 .1 .1 .0
 
-add-head : tie.Need-add-head Inv-loop μ-loop
-add-head c = omega (arith, peeling-less (c .before .before .before .before .before .before .before .before .before .before .before .before .before .before .before .before .before .before .before .before .loop .inv) (c .before .before .before .before .before .before .before .before .before .before .before .before .before .before .before .before .before .before .before .loop-test .taken) .0)
+same-length-2 : tie.Need-same-length-2
+same-length-2 c = c .before .before .before .before .before .before .before .before .before .before .before .before .drain-chains .kept .1 .1 .1 .1 .0
 
-loop-less : tie.Need-loop-less Inv-loop μ-loop
-loop-less c = peeling-less (c .before .before .before .before .before .before .before .before .before .before .before .before .before .before .before .before .before .before .before .before .loop .inv) (c .before .before .before .before .before .before .before .before .before .before .before .before .before .before .before .before .before .before .before .loop-test .taken) .1
+same-length-3 : tie.Need-same-length-3
+same-length-3 c = c .before .before .before .before .before .before .before .before .before .before .before .before .drain-chains .kept .1 .1 .1 .1 .1 .0
 
-loop-again : tie.Need-loop-again Inv-loop μ-loop
-loop-again c = peeling-step (c .before .before .before .before .before .before .before .before .before .before .before .before .before .before .before .before .before .before .before .before .loop .inv) (c .before .before .before .before .before .before .before .before .before .before .before .before .step .ensures)
+same-length-4 : tie.Need-same-length-4
+same-length-4 c = c .before .before .before .before .before .before .before .before .before .before .before .before .drain-chains .kept .1 .1 .1 .1 .1 .1 .0 ∙ c .before .before .before .before .before .before .before .before .before .before .before .before .before .before .before .before .before .before .before .before .before .before .seed .kept .1 .1 .0
 
-same-length : tie.Need-same-length Inv-loop μ-loop
-same-length c = peeling-long (c .before .before .before .before .before .before .before .before .before .before .before .before .before .before .pre) (c .before .loop .inv) .0
+same-length-5 : tie.Need-same-length-5
+same-length-5 c = c .before .before .before .before .before .before .before .before .before .before .before .before .drain-chains .kept .1 .1 .1 .1 .1 .1 .1 .0
 
-same-length-2 : tie.Need-same-length-2 Inv-loop μ-loop
-same-length-2 c = peeling-long (c .before .before .before .before .before .before .before .before .before .before .before .before .before .before .pre) (c .before .loop .inv) .1
+same-length-6 : tie.Need-same-length-6
+same-length-6 c = c .before .before .before .before .before .before .before .before .before .before .before .before .drain-chains .kept .1 .1 .1 .1 .1 .1 .1 .1 .0
 
-same-length-3 : tie.Need-same-length-3 Inv-loop μ-loop
-same-length-3 c = peeling-long (c .before .before .before .before .before .before .before .before .before .before .before .before .before .before .pre) (c .before .loop .inv) .2
+returns : tie.Need-returns
+returns c = c .before .before .before .before .before .before .before .before .before .before .before .before .drain-chains .ensures
 
-same-length-4 : tie.Need-same-length-4 Inv-loop μ-loop
-same-length-4 c = peeling-long (c .before .before .before .before .before .before .before .before .before .before .before .before .before .before .pre) (c .before .loop .inv) .3
+drain-stored-requires : tie.Need-drain-stored-requires
+drain-stored-requires c κs = peelable-ready (c .before .before .before .before .before .before .before .before .before .before .before .before .before .before .before .before .before .before .before .pre) (c .before .before .before .before .before .before .before .before .before .seed .ensures) (c .before .before .before .before .before .before .before .before .before .seed .kept .1 .1 .0)
 
-same-length-5 : tie.Need-same-length-5 Inv-loop μ-loop
-same-length-5 c = peeling-long (c .before .before .before .before .before .before .before .before .before .before .before .before .before .before .pre) (c .before .loop .inv) .4
+same-length-7 : tie.Need-same-length-7
+same-length-7 c = c .before .before .before .before .before .before .before .before .before .before .before .before .drain-stored .kept .1 .1 .1 .0
 
-same-length-6 : tie.Need-same-length-6 Inv-loop μ-loop
-same-length-6 c = peeling-long (c .before .before .before .before .before .before .before .before .before .before .before .before .before .before .pre) (c .before .loop .inv) .5
+same-length-8 : tie.Need-same-length-8
+same-length-8 c = c .before .before .before .before .before .before .before .before .before .before .before .before .drain-stored .kept .1 .1 .1 .1 .0
 
-returns : tie.Need-returns Inv-loop μ-loop
-returns c = peeling-end (c .before .loop .inv) (c .loop-test .left)
+same-length-9 : tie.Need-same-length-9
+same-length-9 c = c .before .before .before .before .before .before .before .before .before .before .before .before .drain-stored .kept .1 .1 .1 .1 .1 .0
+
+same-length-10 : tie.Need-same-length-10
+same-length-10 c = c .before .before .before .before .before .before .before .before .before .before .before .before .drain-stored .kept .1 .1 .1 .1 .1 .1 .0 ∙ c .before .before .before .before .before .before .before .before .before .before .before .before .before .before .before .before .before .before .before .before .before .before .seed .kept .1 .1 .0
+
+same-length-11 : tie.Need-same-length-11
+same-length-11 c = c .before .before .before .before .before .before .before .before .before .before .before .before .drain-stored .kept .1 .1 .1 .1 .1 .1 .1 .0
+
+same-length-12 : tie.Need-same-length-12
+same-length-12 c = c .before .before .before .before .before .before .before .before .before .before .before .before .drain-stored .kept .1 .1 .1 .1 .1 .1 .1 .1 .0
+
+returns-2 : tie.Need-returns-2
+returns-2 c = c .before .before .before .before .before .before .before .before .before .before .before .before .drain-stored .ensures
 
 pub peel-spec : {M : Type 1} → statement M
-peel-spec = tie.close (tie.spec Inv-loop μ-loop seed-requires loop-holds step-requires add-head loop-less loop-again same-length same-length-2 same-length-3 same-length-4 same-length-5 same-length-6 returns)
+peel-spec = tie.close (tie.spec seed-requires drain-chains-requires same-length same-length-2 same-length-3 same-length-4 same-length-5 same-length-6 returns drain-stored-requires same-length-7 same-length-8 same-length-9 same-length-10 same-length-11 same-length-12 returns-2)

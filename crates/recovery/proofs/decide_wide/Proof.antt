@@ -3,7 +3,8 @@ use borrow.Author.Needs.{needs}
 use native.Mathlib.Omega.{arith}
 use mathlib.Core.Path.{ap, _∙_}
 use lib.ListN.{replicate}
-use Rattle.deciding.specs.Attempts.{zeros, cut-arrays}
+use Rattle.tables.specs.Zeros.{zeros}
+use Rattle.deciding.specs.Attempts.{cut-arrays}
 use Rattle.recovery.proofs.decide_wide.Statement.{statement}
 use Rattle.recovery.proofs.decide_wide.Tie as tie
 
@@ -40,11 +41,8 @@ slice-aggregate-cut-4 c = search needs
 slice-aggregate-cut-5 : tie.Need-slice-aggregate-cut-5
 slice-aggregate-cut-5 c = search needs
 
-slice-aggregate-cut-6 : tie.Need-slice-aggregate-cut-6
-slice-aggregate-cut-6 c = search needs
-
 cut-requires : tie.Need-cut-requires
-cut-requires c κs = (c .before .before .before .before .before .before .before .before .before .before .before .before .before .before .before .before .before .pre .0, cut-arrays 1088 (omega (arith, c .before .before .before .before .before .before .before .before .before .before .before .before .before .before .before .before .before .pre .1)) (c .before .before .before .before .before .before .before .before .before .before .intact .ensures .0))
+cut-requires c κs = (c .before .before .before .before .before .before .before .before .before .before .before .before .before .before .before .before .pre .0, cut-arrays 1088 (omega (arith, c .before .before .before .before .before .before .before .before .before .before .before .before .before .before .before .before .pre .1)) (c .before .before .before .before .before .before .before .before .before .intact .ensures .0))
 
 same-length-3 : tie.Need-same-length-3
 same-length-3 c = search needs
@@ -70,7 +68,6 @@ decide-wide-spec =
     slice-aggregate-cut-3
     slice-aggregate-cut-4
     slice-aggregate-cut-5
-    slice-aggregate-cut-6
     cut-requires
     same-length-3
     same-length-4

@@ -1,10 +1,10 @@
 -- Copying runs: one turn of each loop, and what stands there at the end.
--- Main results: copied-more; Gathering (gather's invariant) with its start, step and end; Filling (spread's) with the same.
+-- Main results: copied-more; fronts-full and filled-full (full sections at once); Gathering (gather's invariant) with its start, step and end; Filling (spread's) with the same.
 use mathlib.Core.Path.{_≡_, refl, sym, _∙_, ap, ap₂}
 use mathlib.Core.Logic.{by-cases}
 use mathlib.Core.List.{List, _++_, map, append-assoc, append-nil}
 use Prim.Native.Nat.{ℕ, zero, suc, _+_, _-_, _*_, _/_, _%_, _≤_, _<_}
-use native.Mathlib.Nat.{mul-le-mul-right, div-lt-iff-lt-mul}
+use native.Mathlib.Nat.{suc-mul, zero-mul, sub-zero, mul-le-mul-right, div-lt-iff-lt-mul}
 use native.Mathlib.Numerals.{add-one}
 use native.Mathlib.Decide.{ℕ-discrete}
 use native.Mathlib.Omega.{arith}
@@ -13,7 +13,7 @@ use lib.ListN.{length, getD, set, take, drop, replicate, length-append, length-d
 use lib.Seq.{drop-cons, take-suc, set-at, append-snoc, take-at, drop-at, take-append-le, drop-append-le, getD-append-add, take-add, take-all, length-take-le}
 use Rattle.plan.specs.Layout.{Layout, messageCount}
 use Rattle.code.specs.Laws.ParityCount.{messages}
-use Rattle.runs.specs.Runs.{RunsOf, Lent, Spread}
+use Rattle.runs.specs.Runs.{RunsOf, Lent, Full, Spread}
 use Rattle.runs.specs.Laws.Computing.{zeros}
 use Rattle.runs.specs.Laws.Fronts.{total, fronts, filled, part-write, total-more, total-le, total-within, parts-place, runs-short, runs-positive, parity-offset, parity-section, total-count, fronts-messages}
 
@@ -41,6 +41,56 @@ length-part l a k h = length-take-le k (drop a l) (rw length-drop (omega arith))
 section-start : (t : ℕ) {j n : ℕ} → j < n → j * t + t ≤ n * t
 section-start t h = omega (arith, mul-le-mul-right t h)
 
+-- ---- full sections
+
+pub full-none : (n t : ℕ) (runs : List ℕ) → Full n t runs 0
+full-none n t runs = record { most = omega arith; whole = λ i h. absurd (omega arith) }
+
+pub full-more : {n t : ℕ} {runs : List ℕ} {j : ℕ} → Full n t runs j → j < n → getD runs j 0 ≡ t → Full n t runs (j + 1)
+full-more {j = j} F h e = record {
+  most = omega arith;
+  whole = λ i l. by-cases (ℕ-discrete i j) (λ q. rw q e) (λ q. F .whole i (omega arith));
+}
+
+total-full : (t : ℕ) (runs : List ℕ) (k : ℕ) → ((i : ℕ) → i < k → getD runs i 0 ≡ t) → total runs k ≡ k * t
+unfolding total
+total-full t runs zero h = omega arith
+total-full t runs (suc k) h = ap₂ _+_ (total-full t runs k (λ i l. h i (omega arith))) (h k (omega arith)) ∙ sym (suc-mul k t)
+
+fronts-full : (t : ℕ) (runs block : List ℕ) (k : ℕ) → ((i : ℕ) → i < k → getD runs i 0 ≡ t) → fronts t runs block k ≡ take (k * t) block
+unfolding fronts
+fronts-full t runs block zero h = ap (λ y. take y block) (sym (zero-mul t))
+fronts-full t runs block (suc k) h =
+    ap₂ _++_ (fronts-full t runs block k (λ i l. h i (omega arith))) (ap (λ y. take y (drop (k * t) block)) (h k (omega arith)))
+    ∙ sym (take-add (k * t) t block) ∙ ap (λ y. take y block) (sym (suc-mul k t))
+
+filled-full : (t : ℕ) (runs message : List ℕ) (k : ℕ) → ((i : ℕ) → i < k → getD runs i 0 ≡ t) → filled t runs message k ≡ take (k * t) message
+unfolding filled
+filled-full t runs message zero h = ap (λ y. take y message) (sym (zero-mul t))
+filled-full t runs message (suc k) h =
+    let r : getD runs k 0 ≡ t = h k (omega arith) in
+    let z : t - t ≡ 0 = omega arith in
+    ap₂ _++_ (filled-full t runs message k (λ i l. h i (omega arith)))
+    (ap₂ (λ y w. take y (drop w message) ++ replicate (t - y) 0) r (total-full t runs k (λ i l. h i (omega arith)))
+    ∙ ap (λ y. take t (drop (k * t) message) ++ replicate y 0) z ∙ append-nil (take t (drop (k * t) message)))
+    ∙ sym (take-add (k * t) t message) ∙ ap (λ y. take y message) (sym (suc-mul k t))
+
+-- a copy into the first e places
+front-copied : (x l₀ l : List ℕ) (e : ℕ) → length x ≡ e → e ≤ length l₀ → l ≡ take 0 l₀ ++ (x ++ drop (e - 0) (drop 0 l₀)) → (l ≡ x ++ drop e l) × (length l ≡ length l₀)
+front-copied x l₀ l e lx h hl =
+    let q : l ≡ x ++ drop e l₀ = hl ∙ ap (λ y. x ++ drop y l₀) (sub-zero e) in
+    let d : drop e l ≡ drop e l₀ = ap (drop e) q ∙ drop-at x (drop e l₀) e lx in
+    (q ∙ ap (λ y. x ++ y) (sym d), ap length q ∙ simp (length-append, length-drop) (omega arith))
+
+-- the full sections lie within
+pub full-room : {n t : ℕ} {runs block message : List ℕ} {k : ℕ} → Lent n t runs block message → Full n t runs k
+    → (k * t ≤ length block) × (k * t ≤ length message) × (n * t ≤ 32768)
+full-room {n} {t} {runs} {k = k} h F = (
+  omega (arith, h .block-long, mul-le-mul-right t (F .most)),
+  omega (arith, h .message-long, total-count (h .of), total-le runs n (F .most), total-full t runs k (F .whole)),
+  h .of .small,
+)
+
 -- ---- gather
 
 fronts-more : (t : ℕ) (runs block : List ℕ) (j : ℕ) → fronts t runs block (suc j) ≡ fronts t runs block j ++ take (getD runs j 0) (drop (j * t) block)
@@ -66,9 +116,21 @@ module _ {n t : ℕ} {L : Layout} {runs : List ℕ} (h : RunsOf n t L runs) wher
   room l = rw (← total-count h) (total-within runs l)
 
 module _ {n t : ℕ} {runs block m₀ : List ℕ} (h : Lent n t runs block m₀) where
-  pub gathering-none : Gathering n t runs block m₀ 0 0 0 m₀
-  unfolding fronts total
-  gathering-none = record { low = omega arith; at-is = omega arith; done-is = refl; symbols = refl }
+  -- the full sections copied at once
+  pub gathering-full : {k e : ℕ} {x m : List ℕ} → Full n t runs k → e ≡ k * t → x ≡ take (e - 0) (drop 0 block)
+      → m ≡ take 0 m₀ ++ (x ++ drop (e - 0) (drop 0 m₀)) → Lent n t runs block m × Gathering n t runs block m e e k m
+  gathering-full {k} {e} {x} {m} F he hx hm =
+      let r = full-room h F in
+      let q : x ≡ take e block = hx ∙ ap (λ y. take y block) (sub-zero e) in
+      let c = front-copied x m₀ m e (ap length q ∙ length-take-le e block (omega arith)) (omega arith) hm in (
+        record { L = h .L; of = h .of; block-long = h .block-long; message-long = c .1 ∙ h .message-long },
+        record {
+          low = F .most;
+          at-is = he;
+          done-is = he ∙ sym (total-full t runs k (F .whole));
+          symbols = c .0 ∙ ap (λ y. y ++ drop e m) (q ∙ ap (λ y. take y block) he ∙ sym (fronts-full t runs block k (F .whole)));
+        },
+      )
 
   pub gathering-long : {a done j : ℕ} {m : List ℕ} → Gathering n t runs block m₀ a done j m → length m ≡ length m₀
   gathering-long {a} {done} {j} g =
@@ -165,12 +227,23 @@ module _ {n t : ℕ} {L : Layout} {runs : List ℕ} (h : RunsOf n t L runs) (mes
       List·getD-append f (x ++ z) 0 c (omega (arith, div-lt-iff-lt-mul {x = c} {y = j} (runs-positive h) .0 o')) ∙ filled-blank j c (omega arith) o' o)
 
 module _ {n t : ℕ} {runs b₀ message : List ℕ} (h : Lent n t runs b₀ message) where
-  whole-message : length message ≡ total runs n
+  pub whole-message : length message ≡ total runs n
   whole-message = h .message-long ∙ sym (total-count (h .of))
 
-  pub filling-none : Filling n t runs message b₀ 0 0 0 b₀
-  unfolding filled total
-  filling-none = record { low = omega arith; at-is = omega arith; done-is = refl; symbols = refl }
+  pub filling-full : {k e : ℕ} {x b : List ℕ} → Full n t runs k → e ≡ k * t → x ≡ take (e - 0) (drop 0 message)
+      → b ≡ take 0 b₀ ++ (x ++ drop (e - 0) (drop 0 b₀)) → Lent n t runs b message × Filling n t runs message b e e k b
+  filling-full {k} {e} {x} {b} F he hx hb =
+      let r = full-room h F in
+      let q : x ≡ take e message = hx ∙ ap (λ y. take y message) (sub-zero e) in
+      let c = front-copied x b₀ b e (ap length q ∙ length-take-le e message (omega arith)) (omega arith) hb in (
+        record { L = h .L; of = h .of; block-long = c .1 ∙ h .block-long; message-long = h .message-long },
+        record {
+          low = F .most;
+          at-is = he;
+          done-is = he ∙ sym (total-full t runs k (F .whole));
+          symbols = c .0 ∙ ap (λ y. y ++ drop e b) (q ∙ ap (λ y. take y message) he ∙ sym (filled-full t runs message k (F .whole)));
+        },
+      )
 
   pub filling-long : {a done j : ℕ} {b : List ℕ} → Filling n t runs message b₀ a done j b → length b ≡ length b₀
   filling-long {a} {done} {j} f =

@@ -1,7 +1,7 @@
 -- An array of 4096 entries holds the sums.
 use borrow.Author.Needs.{needs}
 use native.Mathlib.Omega.{arith}
-use Rattle.parities.specs.Zeros.{zeros}
+use Rattle.tables.specs.Zeros.{zeros}
 use Rattle.sealing.proofs.clean_large.Statement.{statement}
 use Rattle.sealing.proofs.clean_large.Tie as tie
 

@@ -1,7 +1,7 @@
 -- An array of 512 entries holds the sums.
 use borrow.Author.Needs.{needs}
 use native.Mathlib.Omega.{arith}
-use Rattle.parities.specs.Zeros.{zeros}
+use Rattle.tables.specs.Zeros.{zeros}
 use Rattle.sealing.proofs.clean_medium.Statement.{statement}
 use Rattle.sealing.proofs.clean_medium.Tie as tie
 

@@ -1,6 +1,6 @@
 -- The row sums of the block, all 0 or not; no erasure is left of none.
 use borrow.Author.Needs.{needs}
-use Rattle.parities.specs.Zeros.{front-long, zeros-room, zeros-part}
+use Rattle.tables.specs.Zeros.{front-long, zeros-room, zeros-part}
 use Rattle.sealing.specs.Reading.{sums-room, sums-same, tells-codeword}
 use Rattle.sealing.proofs.rows_clean.Statement.{statement}
 use Rattle.sealing.proofs.rows_clean.Tie as tie

@@ -1,7 +1,7 @@
 -- `tables::marks::note` meets its contract: two stores in each table, at the top row and then at the bottom row.
 use mathlib.Core.Path.{_∙_}
 use borrow.Author.Needs.{needs}
-use Rattle.tables.specs.Scan.{ready-top, ready-bottom, room-top, room-bottom, noted}
+use Rattle.tables.specs.Counting.{ready-top, ready-bottom, room-top, room-bottom, noted}
 use Rattle.tables.proofs.marks.note.Statement.{statement}
 use Rattle.tables.proofs.marks.note.Tie as tie
 
@@ -14,24 +14,18 @@ top-requires c κs = search needs
 bottom-requires : tie.Need-bottom-requires
 bottom-requires c κs = search needs
 
-add-requires : tie.Need-add-requires
-add-requires c κs = search needs
-
-add-requires-2 : tie.Need-add-requires-2
-add-requires-2 c κs = ready-bottom (c .before .before .before .before .before .before .before .before .before .before .before .pre) (c .before .before .before .before .before .bottom .ensures) (c .before .before .before .add .kept .0 ∙ c .before .before .before .before .before .before .before .before .before .before .before .pre .sum-long)
-
 put-in-requires : tie.Need-put-in-requires
 put-in-requires c κs = (
-  ready-top (c .before .before .before .before .before .before .before .before .before .before .before .before .before .before .before .before .pre) (c .before .before .before .before .before .before .before .before .before .before .before .top .ensures) (c .before .before .before .before .before .before .before .before .before .before .before .before .before .before .before .before .pre .left-long),
-  ready-top (c .before .before .before .before .before .before .before .before .before .before .before .before .before .before .before .before .pre) (c .before .before .before .before .before .before .before .before .before .before .before .top .ensures) (c .before .before .before .before .before .before .before .before .before .before .before .before .before .before .before .before .pre .code-long),
-  room-top (c .before .before .before .before .before .before .before .before .before .before .before .before .before .before .before .before .pre) (c .before .before .before .before .before .before .before .before .before .before .before .top .ensures),
+  ready-top (c .before .before .before .before .before .before .before .pre) (c .before .before .before .top .ensures) (c .before .before .before .before .before .before .before .pre .left-long),
+  ready-top (c .before .before .before .before .before .before .before .pre) (c .before .before .before .top .ensures) (c .before .before .before .before .before .before .before .pre .code-long),
+  room-top (c .before .before .before .before .before .before .before .pre) (c .before .before .before .top .ensures),
 )
 
 put-in-requires-2 : tie.Need-put-in-requires-2
 put-in-requires-2 c κs = (
-  ready-bottom (c .before .before .before .before .before .before .before .before .before .before .before .before .before .before .before .before .before .before .before .before .before .before .before .pre) (c .before .before .before .before .before .before .before .before .before .before .before .before .before .before .before .before .before .bottom .ensures) (c .before .before .before .before .before .before .put-in .kept .0 ∙ c .before .before .before .before .before .before .before .before .before .before .before .before .before .before .before .before .before .before .before .before .before .before .before .pre .left-long),
-  ready-bottom (c .before .before .before .before .before .before .before .before .before .before .before .before .before .before .before .before .before .before .before .before .before .before .before .pre) (c .before .before .before .before .before .before .before .before .before .before .before .before .before .before .before .before .before .bottom .ensures) (c .before .before .before .before .before .before .put-in .kept .1 .0 ∙ c .before .before .before .before .before .before .before .before .before .before .before .before .before .before .before .before .before .before .before .before .before .before .before .pre .code-long),
-  room-bottom (c .before .before .before .before .before .before .before .before .before .before .before .before .before .before .before .before .before .before .before .before .before .before .before .pre) (c .before .before .before .before .before .before .before .before .before .before .before .before .before .before .before .before .before .before .top .ensures) (c .before .before .before .before .before .before .before .before .before .before .before .before .before .before .before .before .before .bottom .ensures) (c .before .before .before .before .before .before .put-in .ensures .0),
+  ready-bottom (c .before .before .before .before .before .before .before .before .before .before .before .before .before .before .pre) (c .before .before .before .before .before .before .before .before .before .bottom .ensures) (c .before .before .before .before .before .before .put-in .kept .0 ∙ c .before .before .before .before .before .before .before .before .before .before .before .before .before .before .pre .left-long),
+  ready-bottom (c .before .before .before .before .before .before .before .before .before .before .before .before .before .before .pre) (c .before .before .before .before .before .before .before .before .before .bottom .ensures) (c .before .before .before .before .before .before .put-in .kept .1 .0 ∙ c .before .before .before .before .before .before .before .before .before .before .before .before .before .before .pre .code-long),
+  room-bottom (c .before .before .before .before .before .before .before .before .before .before .before .before .before .before .pre) (c .before .before .before .before .before .before .before .before .before .before .top .ensures) (c .before .before .before .before .before .before .before .before .before .bottom .ensures) (c .before .before .before .before .before .before .put-in .ensures .0),
 )
 
 same-length : tie.Need-same-length
@@ -40,12 +34,9 @@ same-length c = search needs
 same-length-2 : tie.Need-same-length-2
 same-length-2 c = search needs
 
-same-length-3 : tie.Need-same-length-3
-same-length-3 c = search needs
-
 returns : tie.Need-returns
 returns c =
-    noted (c .before .before .before .before .before .before .before .before .before .before .before .before .before .before .before .before .before .before .before .before .before .before .before .top .ensures) (c .before .before .before .before .before .before .before .before .before .before .before .before .before .before .before .before .before .before .before .before .before .before .bottom .ensures) (c .before .before .before .before .before .before .before .before .before .before .before .before .before .before .before .before .before .before .before .before .before .before .before .before .pack .ensures) (c .before .before .before .before .before .before .before .before .before .before .before .before .before .before .before .before .before .before .before .before .add .ensures) (c .before .before .before .before .before .before .before .before .before .before .before .before .before .before .before .before .add2 .ensures)
+    noted (c .before .before .before .before .before .before .before .before .before .before .before .before .before .before .before .top .ensures) (c .before .before .before .before .before .before .before .before .before .before .before .before .before .before .bottom .ensures) (c .before .before .before .before .before .before .before .before .before .before .before .before .before .before .before .before .pack .ensures)
     (c .before .before .before .before .before .before .before .before .before .before .before .put-in .ensures .0) (c .before .before .before .before .put-in2 .ensures .0) (c .before .before .before .before .before .before .before .before .before .before .before .put-in .ensures .1) (c .before .before .before .before .put-in2 .ensures .1)
 
 pub note-spec : {M : Type 1} → statement M
@@ -55,11 +46,8 @@ note-spec =
     pack-requires
     top-requires
     bottom-requires
-    add-requires
-    add-requires-2
     put-in-requires
     put-in-requires-2
     same-length
     same-length-2
-    same-length-3
     returns)

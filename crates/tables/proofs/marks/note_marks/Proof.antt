@@ -1,23 +1,24 @@
--- `tables::marks::note_marks` meets its contract. The invariant: the tables picture the erasures below byte i, and a section is reached there.
+-- `tables::marks::note_marks` meets its contract. The invariant: the tables count the erasures below byte i, and a section is reached there.
 use mathlib.Core.Path.{sym, _∙_}
 use Prim.Native.Nat.{_+_, _-_, _*_, _/_, _≤_, _<_}
 use native.Mathlib.Omega.{arith}
 use lib.ListN.{length}
 use Rattle.tables.specs.Spots.{Reached, reached-on}
-use Rattle.tables.specs.Scan.{Seen, seen-at, seen-clear, seen-end, seen-first, seen-long, seen-start, words-end}
+use Rattle.tables.specs.Counting.{seen-long}
+use Rattle.tables.specs.Scan.{Scanned, scanned-at, scanned-clear, scanned-end, scanned-first, scanned-start, words-end}
 use Rattle.tables.specs.SumLaws.{zeros-long}
 use Rattle.tables.proofs.marks.note_marks.Statement.{statement}
 use Rattle.tables.proofs.marks.note_marks.Tie as tie
 
 abbrev Inv-loop : tie.InvT-loop
-Inv-loop n t shifts block marks first sum₀ left₀ code₀ at₀ i₀ sum left code at i =
-    (first .0 < 8 * i + 64) × Reached n t shifts (8 * i) (at .index) (at .begin) (at .end) (at .shift) × Seen n t shifts block marks (first .0) (8 * i) sum left code
+Inv-loop n t shifts marks first left₀ code₀ at₀ i₀ left code at i =
+    (first .0 < 8 * i + 64) × Reached n t shifts (8 * i) (at .index) (at .begin) (at .end) (at .shift) × Scanned n t shifts marks (first .0) (8 * i) left code
 
 abbrev μ-loop : tie.MeasureT-loop
-μ-loop n t shifts block marks first sum₀ left₀ code₀ at₀ i₀ sum left code at i = length marks - i
+μ-loop n t shifts marks first left₀ code₀ at₀ i₀ left code at i = length marks - i
 
 start-requires : tie.Need-start-requires Inv-loop μ-loop
-start-requires c κs = c .before .before .before .before .before .before .pre .0 .sized
+start-requires c κs = c .before .before .before .before .pre .0 .sized
 
 cast-pass-zeros : tie.Need-cast-pass-zeros Inv-loop μ-loop
 cast-pass-zeros c = omega (arith, c .struct-known .given)
@@ -26,37 +27,34 @@ mul-pass-zeros : tie.Need-mul-pass-zeros Inv-loop μ-loop
 mul-pass-zeros c = omega (arith, c .struct-known .given)
 
 pass-zeros-requires : tie.Need-pass-zeros-requires Inv-loop μ-loop
-pass-zeros-requires c κs = omega (arith, c .struct-known .given, c .before .before .before .before .before .before .before .before .pre .0 .marks-long, c .before .before .before .before .before .before .before .before .pre .0 .sized .places-max)
+pass-zeros-requires c κs = omega (arith, c .struct-known .given, c .before .before .before .before .before .before .pre .0 .marks-long, c .before .before .before .before .before .before .pre .0 .sized .places-max)
 
 loop-holds : tie.Need-loop-holds Inv-loop μ-loop
-loop-holds c = (omega (arith, c .pass-zeros .ensures .0 .order), reached-on _ (omega arith) (c .before .before .start .ensures), seen-clear (c .pass-zeros .ensures .0) (seen-first (8 * (c .before .before .before .before .before .before .before .before .before .args .first .0 / 64 * 8)) (omega arith) (seen-start (c .before .before .before .before .before .before .before .before .before .args .marks .now) (c .before .before .before .before .before .before .before .before .before .args .first .0) (λ d. c .before .before .before .before .before .before .before .shared-slice-known2 .given d .fits) (c .before .before .before .before .before .before .before .before .before .pre .1 .0) (c .before .before .before .before .before .before .before .before .before .pre .1 .1 .0) (c .before .before .before .before .before .before .before .before .before .pre .1 .1 .1))))
+loop-holds c = (omega (arith, c .pass-zeros .ensures .0 .order), reached-on _ (omega arith) (c .before .before .start .ensures), scanned-clear (c .pass-zeros .ensures .0) (scanned-first (8 * (c .before .before .before .before .before .before .before .args .first .0 / 64 * 8)) (omega arith) (scanned-start (c .before .before .before .before .before .before .before .args .marks .now) (c .before .before .before .before .before .before .before .args .first .0) (c .before .before .before .before .before .before .before .pre .1 .0) (c .before .before .before .before .before .before .before .pre .1 .1))))
 
 note-word-requires : tie.Need-note-word-requires Inv-loop μ-loop
-note-word-requires c κs = ((c .before .before .before .before .before .before .before .before .before .before .before .before .before .before .pre .0, c .before .before .before .loop-test .taken, c .before .before .before .before .loop .inv .0), (c .before .before .before .before .loop .inv .1, c .before .before .before .before .loop .inv .2))
+note-word-requires c κs = ((c .before .before .before .before .before .before .before .before .before .before .before .pre .0, c .before .before .loop-test .taken, c .before .before .before .loop .inv .0), (c .before .before .before .loop .inv .1, c .before .before .before .loop .inv .2))
 
 add-pass-zeros : tie.Need-add-pass-zeros Inv-loop μ-loop
-add-pass-zeros c = omega (arith, c .before .before .before .before .before .before .before .before .before .before .loop-test .taken, c .before .before .before .before .before .before .before .before .before .before .before .before .before .before .before .before .before .before .before .before .before .pre .0 .marks-long, c .before .before .before .before .before .before .before .before .before .before .before .before .before .before .before .before .before .before .before .before .before .pre .0 .sized .places-max)
+add-pass-zeros c = omega (arith, c .before .before .before .before .before .before .before .loop-test .taken, c .before .before .before .before .before .before .before .before .before .before .before .before .before .before .before .before .pre .0 .marks-long, c .before .before .before .before .before .before .before .before .before .before .before .before .before .before .before .before .pre .0 .sized .places-max)
 
 pass-zeros-requires-2 : tie.Need-pass-zeros-requires-2 Inv-loop μ-loop
-pass-zeros-requires-2 c κs = omega (arith, c .before .before .before .before .before .before .before .before .before .before .loop-test .taken, c .before .before .before .before .before .before .before .before .before .before .before .before .before .before .before .before .before .before .before .before .before .pre .0 .marks-long, c .before .before .before .before .before .before .before .before .before .before .before .before .before .before .before .before .before .before .before .before .before .pre .0 .sized .places-max)
+pass-zeros-requires-2 c κs = omega (arith, c .before .before .before .before .before .before .before .loop-test .taken, c .before .before .before .before .before .before .before .before .before .before .before .before .before .before .before .before .pre .0 .marks-long, c .before .before .before .before .before .before .before .before .before .before .before .before .before .before .before .before .pre .0 .sized .places-max)
 
 loop-less : tie.Need-loop-less Inv-loop μ-loop
-loop-less c = omega (arith, c .pass-zeros2 .ensures .0 .order, c .before .before .before .before .before .before .before .before .before .before .before .loop-test .taken)
+loop-less c = omega (arith, c .pass-zeros2 .ensures .0 .order, c .before .before .before .before .before .before .before .before .loop-test .taken)
 
 loop-again : tie.Need-loop-again Inv-loop μ-loop
-loop-again c = (omega (arith, c .before .before .before .before .before .before .before .before .before .before .before .before .loop .inv .0, c .pass-zeros2 .ensures .0 .order), reached-on _ (omega (arith, c .pass-zeros2 .ensures .0 .order)) (c .before .before .before .before .before .before .before .note-word .ensures .1), seen-clear (c .pass-zeros2 .ensures .0) (seen-at (omega arith) (c .before .before .before .before .before .before .before .note-word .ensures .0)))
+loop-again c = (omega (arith, c .before .before .before .before .before .before .before .before .before .loop .inv .0, c .pass-zeros2 .ensures .0 .order), reached-on _ (omega (arith, c .pass-zeros2 .ensures .0 .order)) (c .before .before .before .before .before .note-word .ensures .1), scanned-clear (c .pass-zeros2 .ensures .0) (scanned-at (omega arith) (c .before .before .before .before .before .note-word .ensures .0)))
 
 same-length : tie.Need-same-length Inv-loop μ-loop
-same-length c = seen-long (c .before .loop .inv .2) .0 ∙ sym (c .before .before .before .before .before .before .before .before .before .before .before .pre .1 .0 .long)
+same-length c = seen-long (c .before .loop .inv .2 .seen) .0 ∙ sym (zeros-long (c .before .before .before .before .before .before .before .before .before .args .t) (c .before .before .before .before .before .before .before .before .before .args .left .now) (c .before .before .before .before .before .before .before .before .before .pre .1 .0))
 
 same-length-2 : tie.Need-same-length-2 Inv-loop μ-loop
-same-length-2 c = seen-long (c .before .loop .inv .2) .1 ∙ sym (zeros-long (c .before .before .before .before .before .before .before .before .before .before .before .args .t) (c .before .before .before .before .before .before .before .before .before .before .before .args .left .now) (c .before .before .before .before .before .before .before .before .before .before .before .pre .1 .1 .0))
-
-same-length-3 : tie.Need-same-length-3 Inv-loop μ-loop
-same-length-3 c = seen-long (c .before .loop .inv .2) .2 ∙ sym (zeros-long (c .before .before .before .before .before .before .before .before .before .before .before .args .t) (c .before .before .before .before .before .before .before .before .before .before .before .args .code .now) (c .before .before .before .before .before .before .before .before .before .before .before .pre .1 .1 .1))
+same-length-2 c = seen-long (c .before .loop .inv .2 .seen) .1 ∙ sym (zeros-long (c .before .before .before .before .before .before .before .before .before .args .t) (c .before .before .before .before .before .before .before .before .before .args .code .now) (c .before .before .before .before .before .before .before .before .before .pre .1 .1))
 
 returns : tie.Need-returns Inv-loop μ-loop
-returns c = seen-end (c .before .before .before .before .before .before .before .before .before .before .before .pre .0) (c .before .loop .inv .2) (words-end (c .before .before .before .before .before .before .before .before .before .before .before .pre .0) (c .before .loop .i) (c .loop-test .left))
+returns c = scanned-end (c .before .before .before .before .before .before .before .before .before .pre .0) (c .before .loop .inv .2) (words-end (c .before .before .before .before .before .before .before .before .before .pre .0) (c .before .loop .i) (c .loop-test .left))
 
 pub note-marks-spec : {M : Type 1} → statement M
 note-marks-spec =
@@ -76,5 +74,4 @@ note-marks-spec =
     loop-again
     same-length
     same-length-2
-    same-length-3
     returns)

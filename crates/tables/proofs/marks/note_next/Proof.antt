@@ -1,23 +1,22 @@
 -- `tables::marks::note_next` meets its contract: the place is noted in the section that is reached.
+use Prim.Native.Nat.{_+_}
+use native.Mathlib.Omega.{arith}
 use borrow.Author.Needs.{needs}
-use Rattle.tables.specs.Scan.{next-here, noted-here}
+use Rattle.tables.specs.Counting.{due-here, due-inside, noted-here}
 use Rattle.tables.proofs.marks.note_next.Statement.{statement}
 use Rattle.tables.proofs.marks.note_next.Tie as tie
 
 reach-requires : tie.Need-reach-requires
-reach-requires c κs = search needs
+reach-requires c κs = (c .before .before .before .pre .0 .sized, c .before .before .before .pre .1, omega (arith, due-inside (c .before .before .before .pre .0) (omega arith)))
 
-cast-t14 : tie.Need-cast-t14
-cast-t14 c = search needs
+cast-t10 : tie.Need-cast-t10
+cast-t10 c = omega (arith, due-inside (c .before .before .before .before .pre .0) (omega arith), c .before .before .before .before .pre .0 .sized .places-max)
 
-sub-t16 : tie.Need-sub-t16
-sub-t16 c = search needs
-
-shared-slice-read-note : tie.Need-shared-slice-read-note
-shared-slice-read-note c = search needs
+sub-t12 : tie.Need-sub-t12
+sub-t12 c = search needs
 
 note-requires : tie.Need-note-requires
-note-requires c κs = next-here (c .before .before .before .before .before .before .before .before .before .before .before .before .pre .0 .0) (c .before .before .before .before .before .reach .ensures .0) (c .before .before .before .before .before .reach .ensures .1)
+note-requires c κs = due-here (c .before .before .before .before .before .before .before .pre .0) (omega arith) (c .before .before .before .reach .ensures .0) (c .before .before .before .reach .ensures .1)
 
 same-length : tie.Need-same-length
 same-length c = search needs
@@ -25,22 +24,8 @@ same-length c = search needs
 same-length-2 : tie.Need-same-length-2
 same-length-2 c = search needs
 
-same-length-3 : tie.Need-same-length-3
-same-length-3 c = search needs
-
 returns : tie.Need-returns
-returns c = (noted-here (c .before .before .before .before .before .before .before .before .before .before .before .before .before .before .before .before .before .before .before .pre .0 .0) (c .before .before .before .before .before .before .before .before .before .before .before .before .reach .ensures .0) (c .before .before .before .before .before .before .before .before .before .before .before .before .reach .ensures .1) (c .before .before .before .before .before .before .before .before .before .before .before .before .before .before .before .before .before .before .before .pre .0 .1) (c .before .before .before .before .before .before .note .ensures), c .before .before .before .before .before .before .before .before .before .before .before .before .reach .ensures .0)
+returns c = (noted-here (c .before .before .before .before .before .before .before .before .before .before .before .before .pre .0 .sized) (c .before .before .before .before .before .before .before .before .reach .ensures .0) (c .before .before .before .before .before .before .before .before .reach .ensures .1) (c .before .before .before .before .note .ensures), c .before .before .before .before .before .before .before .before .reach .ensures .0)
 
 pub note-next-spec : {M : Type 1} → statement M
-note-next-spec =
-    tie.close
-    (tie.spec
-    reach-requires
-    cast-t14
-    sub-t16
-    shared-slice-read-note
-    note-requires
-    same-length
-    same-length-2
-    same-length-3
-    returns)
+note-next-spec = tie.close (tie.spec reach-requires cast-t10 sub-t12 note-requires same-length same-length-2 returns)

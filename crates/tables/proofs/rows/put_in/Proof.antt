@@ -7,17 +7,11 @@ use Rattle.tables.proofs.rows.put_in.Tie as tie
 cast-i : tie.Need-cast-i
 cast-i c = search needs
 
-mul-left : tie.Need-mul-left
-mul-left c = search needs
-
 slice-read-left : tie.Need-slice-read-left
 slice-read-left c = search needs
 
 add-left : tie.Need-add-left
 add-left c = search needs
-
-mul-left-2 : tie.Need-mul-left-2
-mul-left-2 c = search needs
 
 slice-write-left : tie.Need-slice-write-left
 slice-write-left c = search needs
@@ -49,10 +43,8 @@ put-in-spec =
     tie.close
     (tie.spec
     cast-i
-    mul-left
     slice-read-left
     add-left
-    mul-left-2
     slice-write-left
     mul-code
     slice-read-code

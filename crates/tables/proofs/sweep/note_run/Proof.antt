@@ -1,6 +1,6 @@
--- `tables::sweep::note_run` meets its contract: the rows of the places are two parts of each table.
+-- `tables::sweep::note_run` meets its contract: each table is swept for the top rows and for the bottom rows.
 use borrow.Author.Needs.{needs}
-use Rattle.tables.specs.Stretches.{run, run-apart, run-code, run-room}
+use Rattle.tables.specs.Stretches.{run-apart, run-code, run-room, run}
 use Rattle.tables.proofs.sweep.note_run.Statement.{statement}
 use Rattle.tables.proofs.sweep.note_run.Tie as tie
 
@@ -19,14 +19,11 @@ bottom-requires c κs = search needs
 cast-b : tie.Need-cast-b
 cast-b c = search needs
 
-sweep-sums-requires : tie.Need-sweep-sums-requires
-sweep-sums-requires c κs = run-apart (c .before .before .before .before .before .before .before .before .before .before .pre .0) (c .before .before .before .before .before .before .before .before .before .before .pre .1 .0) (c .before .before .before .before .before .before .before .before .before .before .pre .1 .1) (c .before .before .before .before .top .ensures) (c .before .before .bottom .ensures) (c .before .before .before .before .before .before .before .before .before .before .pre .0 .sum-long)
-
 sweep-left-requires : tie.Need-sweep-left-requires
-sweep-left-requires c κs = (run-apart (c .before .before .before .before .before .before .before .before .before .before .before .before .before .before .pre .0) (c .before .before .before .before .before .before .before .before .before .before .before .before .before .before .pre .1 .0) (c .before .before .before .before .before .before .before .before .before .before .before .before .before .before .pre .1 .1) (c .before .before .before .before .before .before .before .before .top .ensures) (c .before .before .before .before .before .before .bottom .ensures) (c .before .before .before .before .before .before .before .before .before .before .before .before .before .before .pre .0 .left-long), run-room (c .before .before .before .before .before .before .before .before .before .before .before .before .before .before .pre .0) (c .before .before .before .before .before .before .before .before .before .before .before .before .before .before .pre .1 .0))
+sweep-left-requires c κs = (run-apart (c .before .before .before .before .before .before .before .before .pre .0) (c .before .before .before .before .before .before .before .before .pre .1 .0) (c .before .before .before .before .before .before .before .before .pre .1 .1) (c .before .before .before .before .top .ensures) (c .before .before .bottom .ensures) (c .before .before .before .before .before .before .before .before .pre .0 .left-long), run-room (c .before .before .before .before .before .before .before .before .pre .0) (c .before .before .before .before .before .before .before .before .pre .1 .0))
 
 sweep-code-requires : tie.Need-sweep-code-requires
-sweep-code-requires c κs = (run-apart (c .before .before .before .before .before .before .before .before .before .before .before .before .before .before .before .before .before .before .pre .0) (c .before .before .before .before .before .before .before .before .before .before .before .before .before .before .before .before .before .before .pre .1 .0) (c .before .before .before .before .before .before .before .before .before .before .before .before .before .before .before .before .before .before .pre .1 .1) (c .before .before .before .before .before .before .before .before .before .before .before .before .top .ensures) (c .before .before .before .before .before .before .before .before .before .before .bottom .ensures) (c .before .before .before .before .before .before .before .before .before .before .before .before .before .before .before .before .before .before .pre .0 .code-long), run-code (c .before .before .before .before .before .before .before .before .before .before .before .before .before .before .before .before .before .before .pre .0) (c .before .before .before .before .before .before .before .before .before .before .before .before .before .before .before .before .before .before .pre .1 .0) (c .before .before .before .before .before .before .before .before .before .before .before .before .before .pack .ensures))
+sweep-code-requires c κs = (run-apart (c .before .before .before .before .before .before .before .before .before .before .before .before .pre .0) (c .before .before .before .before .before .before .before .before .before .before .before .before .pre .1 .0) (c .before .before .before .before .before .before .before .before .before .before .before .before .pre .1 .1) (c .before .before .before .before .before .before .before .before .top .ensures) (c .before .before .before .before .before .before .bottom .ensures) (c .before .before .before .before .before .before .before .before .before .before .before .before .pre .0 .code-long), run-code (c .before .before .before .before .before .before .before .before .before .before .before .before .pre .0) (c .before .before .before .before .before .before .before .before .before .before .before .before .pre .1 .0) (c .before .before .before .before .before .before .before .before .before .pack .ensures))
 
 same-length : tie.Need-same-length
 same-length c = search needs
@@ -34,25 +31,10 @@ same-length c = search needs
 same-length-2 : tie.Need-same-length-2
 same-length-2 c = search needs
 
-same-length-3 : tie.Need-same-length-3
-same-length-3 c = search needs
-
 returns : tie.Need-returns
-returns c = run (c .before .before .before .before .before .before .before .before .before .before .before .before .before .before .before .top .ensures) (c .before .before .before .before .before .before .before .before .before .before .before .before .before .bottom .ensures) (c .before .before .before .before .before .before .before .before .before .before .before .before .before .before .before .before .pack .ensures) (c .before .before .before .before .before .before .before .before .before .before .sweep-sums .ensures) (c .before .before .before .before .before .before .sweep-left .ensures) (c .before .before .sweep-code .ensures)
+returns c = run (c .before .before .before .before .before .before .before .before .before .before .before .top .ensures) (c .before .before .before .before .before .before .before .before .before .bottom .ensures) (c .before .before .before .before .before .before .before .before .before .before .before .before .pack .ensures) (c .before .before .before .before .before .before .sweep-left .ensures) (c .before .before .sweep-code .ensures)
 
 pub note-run-spec : {M : Type 1} → statement M
 note-run-spec =
     tie.close
-    (tie.spec
-    pack-requires
-    top-requires
-    cast-a
-    bottom-requires
-    cast-b
-    sweep-sums-requires
-    sweep-left-requires
-    sweep-code-requires
-    same-length
-    same-length-2
-    same-length-3
-    returns)
+    (tie.spec pack-requires top-requires cast-a bottom-requires cast-b sweep-left-requires sweep-code-requires same-length same-length-2 returns)

@@ -18,17 +18,11 @@ abbrev μ-loop : tie.MeasureT-loop
 loop-holds : tie.Need-loop-holds Inv-loop μ-loop
 loop-holds c = (omega arith, mapped-none oneMore (c .args .s .now))
 
-mul-s : tie.Need-mul-s Inv-loop μ-loop
-mul-s c = omega arith
-
 slice-read-s : tie.Need-slice-read-s Inv-loop μ-loop
 slice-read-s c = omega arith
 
 add-s : tie.Need-add-s Inv-loop μ-loop
 add-s c = omega (arith, c .before .before .loop .inv .1 .above (c .before .before .loop .i) (omega arith), c .before .before .before .pre .each (c .before .before .loop .i) (omega arith))
-
-mul-s-2 : tie.Need-mul-s-2 Inv-loop μ-loop
-mul-s-2 c = omega arith
 
 slice-write-s : tie.Need-slice-write-s Inv-loop μ-loop
 slice-write-s c = omega arith
@@ -55,10 +49,8 @@ raise-spec =
     Inv-loop
     μ-loop
     loop-holds
-    mul-s
     slice-read-s
     add-s
-    mul-s-2
     slice-write-s
     add-i
     loop-less

@@ -12,9 +12,6 @@ add-high c = search needs
 add-low : tie.Need-add-low
 add-low c = search needs
 
-mul-raise : tie.Need-mul-raise
-mul-raise c = search needs
-
 sub-raise : tie.Need-sub-raise
 sub-raise c = search needs
 
@@ -26,9 +23,6 @@ part-raise-end c = search needs
 
 raise-requires : tie.Need-raise-requires
 raise-requires c κs = room-part (c .before .before .args .a) (c .before .before .args .m) (c .before .before .pre .1) (omega arith)
-
-mul-raise-2 : tie.Need-mul-raise-2
-mul-raise-2 c = search needs
 
 sub-raise-2 : tie.Need-sub-raise-2
 sub-raise-2 c = search needs
@@ -54,12 +48,10 @@ sweep-left-spec =
     (tie.spec
     add-high
     add-low
-    mul-raise
     sub-raise
     part-raise-start
     part-raise-end
     raise-requires
-    mul-raise-2
     sub-raise-2
     part-raise-start-2
     part-raise-end-2

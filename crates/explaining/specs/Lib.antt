@@ -1,0 +1,2 @@
+-- Why a block is refused.
+pub mod Explains

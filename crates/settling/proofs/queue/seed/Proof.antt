@@ -1,0 +1,53 @@
+-- `queue::seed` meets its contract: the rows from r on can still be swept. Assumes nothing.
+use lib.ListN.{length}
+use mathlib.Core.Path.{_≡_, refl, _∙_}
+use native.Mathlib.Omega.{arith}
+use Prim.Native.Nat.{_-_}
+use Rattle.settling.specs.Queue.{Sweepable, queued-none, sweep-part, sweep-rest}
+use Rattle.settling.proofs.queue.seed.Statement.{statement}
+use Rattle.settling.proofs.queue.seed.Tie as tie
+
+abbrev Inv-loop : tie.InvT-loop
+Inv-loop t left queue₀ rows tail₀ r₀ queue tail r = Sweepable left queue r rows tail × (length queue ≡ length queue₀)
+
+abbrev μ-loop : tie.MeasureT-loop
+μ-loop t left queue₀ rows tail₀ r₀ queue tail r = rows - r
+
+mul-rows : tie.Need-mul-rows Inv-loop μ-loop
+mul-rows c = omega arith
+
+loop-holds : tie.Need-loop-holds Inv-loop μ-loop
+loop-holds c = (
+  record { queued = queued-none _ _; order = omega arith; left-long = omega arith; queue-long = omega arith; few = omega arith },
+  refl,
+)
+
+add-loop : tie.Need-add-loop Inv-loop μ-loop
+add-loop c = omega arith
+
+sweep-group-requires : tie.Need-sweep-group-requires Inv-loop μ-loop
+sweep-group-requires c κs = sweep-part (c .before .before .loop .inv .0) (omega arith) (c .before .loop-test .taken)
+
+add-r : tie.Need-add-r Inv-loop μ-loop
+add-r c = omega arith
+
+loop-less : tie.Need-loop-less Inv-loop μ-loop
+loop-less c = omega arith
+
+loop-again : tie.Need-loop-again Inv-loop μ-loop
+loop-again c = (
+  sweep-rest (c .before .before .before .before .before .loop .inv .0) (c .before .before .before .before .loop-test .taken) (c .before .before .sweep-group .ensures) (c .before .before .sweep-group .kept .1 .0),
+  c .before .before .sweep-group .kept .1 .0 ∙ c .before .before .before .before .before .loop .inv .1,
+)
+
+sweep-requires : tie.Need-sweep-requires Inv-loop μ-loop
+sweep-requires c κs = c .before .before .loop .inv .0
+
+same-length : tie.Need-same-length Inv-loop μ-loop
+same-length c = c .before .before .sweep .kept .1 .0 ∙ c .before .before .before .before .before .loop .inv .1
+
+returns : tie.Need-returns Inv-loop μ-loop
+returns c = c .before .before .sweep .ensures
+
+pub seed-spec : {M : Type 1} → statement M
+seed-spec = tie.close (tie.spec Inv-loop μ-loop mul-rows loop-holds add-loop sweep-group-requires add-r loop-less loop-again sweep-requires same-length returns)

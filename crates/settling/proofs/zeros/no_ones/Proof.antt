@@ -1,0 +1,39 @@
+-- `zeros::no_ones` meets its contract: `any` is the or of the tests passed.
+use borrow.Author.Needs.{needs}
+use mathlib.Core.List.{map}
+use lib.ListN.{length, length-map}
+use native.Mathlib.Omega.{arith}
+use Prim.Native.Nat.{_-_, _≤_}
+use Rattle.settling.specs.Fill.{Gathers, gathers-none, gathers-ones, gathers-all, one}
+use Rattle.settling.proofs.zeros.no_ones.Statement.{statement}
+use Rattle.settling.proofs.zeros.no_ones.Tie as tie
+
+abbrev Inv-loop : tie.InvT-loop
+Inv-loop l any₀ i₀ any i = (i ≤ length l) × Gathers (map one l) i any
+
+abbrev μ-loop : tie.MeasureT-loop
+μ-loop l any₀ i₀ any i = length l - i
+
+loop-holds : tie.Need-loop-holds Inv-loop μ-loop
+loop-holds c = (search needs, gathers-none _)
+
+shared-slice-read-any : tie.Need-shared-slice-read-any Inv-loop μ-loop
+shared-slice-read-any c = omega arith
+
+cast-any : tie.Need-cast-any Inv-loop μ-loop
+cast-any c = search needs
+
+add-i : tie.Need-add-i Inv-loop μ-loop
+add-i c = omega arith
+
+loop-less : tie.Need-loop-less Inv-loop μ-loop
+loop-less c = omega arith
+
+loop-again : tie.Need-loop-again Inv-loop μ-loop
+loop-again c = (omega arith, gathers-ones (c .before .before .before .args .l .now) (c .before .before .loop .inv .1))
+
+returns : tie.Need-returns Inv-loop μ-loop
+returns c = gathers-all (c .before .loop .inv .1) (omega (arith, c .loop-test .left, length-map (c .before .before .args .l .now) one))
+
+pub no-ones-spec : {M : Type 1} → statement M
+no-ones-spec = tie.close (tie.spec Inv-loop μ-loop loop-holds shared-slice-read-any cast-any add-i loop-less loop-again returns)

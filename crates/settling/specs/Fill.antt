@@ -1,0 +1,171 @@
+-- Adding settled values to a block (filled), and the test that nothing is left (cleanOf).
+-- Main results: filled-at, filled-out (the block place by place), clean-zero, zero-clean.
+use mathlib.Core.Path.{_≡_, refl, sym, _∙_, ap, subst}
+use mathlib.Core.Logic.{_≢_, by-cases}
+use mathlib.Core.Bool.{Bool, true, false, _&&_, true≢false}
+use mathlib.Core.List.{List, [], _∷_, map}
+use Prim.Native.Nat.{ℕ, zero, suc, _+_, _≤_, _<_}
+use native.Mathlib.Decide.{ℕ-discrete}
+use native.Mathlib.Numerals.{add-one}
+use native.Mathlib.Omega.{arith}
+use lib.Bits.{bitOr, or-add-and, or-zero-l, and-le-l, and-le-r}
+use lib.Dec.{eqb}
+use mir.Val.{boolByte}
+use lib.ListN.{length, getD, set, length-set}
+use lib.Seq.{getD-set-same, getD-set-other}
+use borrow.Author.Count.{below-more}
+use borrow.Author.Tests.{eqb-true, eq-eqb, ne-eqb}
+use Rattle.math.specs.MembersLaws.{by-test}
+use Rattle.math.specs.Xor.{_⊕_}
+
+-- the block with the first k values added at the first k places
+unfoldable pub filled : List ℕ → List ℕ → List ℕ → ℕ → List ℕ
+filled block place value zero = block
+filled block place value (suc k) =
+    set (filled block place value k) (getD place k 0) (getD (filled block place value k) (getD place k 0) 0 ⊕ getD value k 0)
+
+-- what `fill` requires
+pub record Fillable (block place value : List ℕ) (k : ℕ) : Type 0 where
+  pub places : k ≤ length place
+  pub values : k ≤ length value
+  pub inside : (i : ℕ) → i < k → getD place i 0 < length block
+
+pub filled-none : (block place value : List ℕ) → filled block place value 0 ≡ block
+unfolding filled
+filled-none block place value = refl
+
+pub filled-long : (block place value : List ℕ) (k : ℕ) → length (filled block place value k) ≡ length block
+unfolding filled
+filled-long block place value zero = refl
+filled-long block place value (suc k) =
+    let b = filled block place value k in
+    length-set b (getD place k 0) (getD b (getD place k 0) 0 ⊕ getD value k 0) ∙ filled-long block place value k
+
+-- the turn of `fill` at place i
+module _ (block place value : List ℕ) {now : List ℕ} (i : ℕ) (e : now ≡ filled block place value i) where
+  pub filled-next : set now (getD place i 0) (getD now (getD place i 0) 0 ⊕ getD value i 0) ≡ filled block place value (i + 1)
+  unfolding filled
+  filled-next = rw add-one (ap (λ b. set b (getD place i 0) (getD b (getD place i 0) 0 ⊕ getD value i 0)) e)
+
+  pub filled-inside : {k : ℕ} → Fillable block place value k → i < k → getD place i 0 < length now
+  filled-inside f h = rw (e, filled-long block place value i) (f .inside i h)
+
+-- away from the places the block is as it was
+pub filled-out : (block place value : List ℕ) (k : ℕ) {c : ℕ} → ((i : ℕ) → i < k → getD place i 0 ≢ c)
+    → getD (filled block place value k) c 0 ≡ getD block c 0
+unfolding filled
+filled-out block place value zero h = refl
+filled-out block place value (suc k) {c} h =
+    let b = filled block place value k in
+    getD-set-other b (getD place k 0) c (getD b (getD place k 0) 0 ⊕ getD value k 0) 0 (λ e. h k (omega arith) (sym e))
+    ∙ filled-out block place value k (λ i l. h i (omega arith))
+
+-- at a place it has the value added, if no place is listed twice
+pub filled-in : (block place value : List ℕ) (x : ℕ → ℕ) (k : ℕ) → ((i : ℕ) → i < k → getD place i 0 < length block)
+    → ((i j : ℕ) → i < j → j < k → getD place i 0 ≢ getD place j 0)
+    → ((i : ℕ) → i < k → x (getD place i 0) ≡ getD block (getD place i 0) 0 ⊕ getD value i 0) → (i : ℕ) → i < k
+    → getD (filled block place value k) (getD place i 0) 0 ≡ x (getD place i 0)
+unfolding filled
+filled-in block place value x zero l once v i h = absurd (omega arith)
+filled-in block place value x (suc k) l once v i h =
+    let b = filled block place value k in
+    let y = getD b (getD place k 0) 0 ⊕ getD value k 0 in
+    by-cases (ℕ-discrete i k)
+    (λ e. rw e
+    (getD-set-same b (getD place k 0) y 0 (rw (filled-long block place value k) (l k (omega arith)))
+    ∙ ap (λ z. z ⊕ getD value k 0) (filled-out block place value k (λ j q. once j k q (omega arith)))
+    ∙ sym (v k (omega arith))))
+    (λ n.
+    let m : i < k = omega arith in
+    getD-set-other b (getD place k 0) (getD place i 0) y 0 (once i k m (omega arith))
+    ∙ filled-in block place value x k (λ j q. l j (omega arith)) (λ a c p q. once a c p (omega arith)) (λ j q. v j (omega arith)) i m)
+
+-- the same of a place that is among the k
+pub filled-at : (block place value : List ℕ) (x : ℕ → ℕ) (k : ℕ) → ((i : ℕ) → i < k → getD place i 0 < length block)
+    → ((i j : ℕ) → i < j → j < k → getD place i 0 ≢ getD place j 0)
+    → ((i : ℕ) → i < k → x (getD place i 0) ≡ getD block (getD place i 0) 0 ⊕ getD value i 0) → {c : ℕ} → (i : ℕ) × (i < k) × (getD place i 0 ≡ c)
+    → getD (filled block place value k) c 0 ≡ x c
+filled-at block place value x k l once v {c} m =
+    subst (λ d. getD (filled block place value k) d 0 ≡ x d) (m .2) (filled-in block place value x k l once v (m .0) (m .1))
+
+-- every number of the list is 0
+unfoldable pub allZero : List ℕ → Bool
+allZero [] = true
+allZero (x ∷ l) = eqb x 0 && allZero l
+
+pub allZero-at : (l : List ℕ) → allZero l ≡ true → (i : ℕ) → getD l i 0 ≡ 0
+unfolding allZero
+allZero-at [] e i = refl
+allZero-at (x ∷ l) e zero = by-test (eqb x 0) (λ t. eqb-true x 0 t) (λ f. absurd (true≢false (sym (rw f at e))))
+allZero-at (x ∷ l) e (suc i) = by-test (eqb x 0) (λ t. allZero-at l (rw t at e) i) (λ f. absurd (true≢false (sym (rw f at e))))
+
+pub at-allZero : (l : List ℕ) → ((i : ℕ) → i < length l → getD l i 0 ≡ 0) → allZero l ≡ true
+unfolding allZero
+at-allZero [] h = refl
+at-allZero (x ∷ l) h = rw (eq-eqb x 0 (h 0 (omega arith))) (at-allZero l (λ i k. h (suc i) (omega arith)))
+
+-- 1 for a number that is 1, else 0
+abbrev pub one : ℕ → ℕ
+one x = boolByte (eqb x 1)
+
+pub one-at : (l : List ℕ) (i : ℕ) → getD (map one l) i 0 ≡ one (getD l i 0)
+one-at [] i = refl
+one-at (x ∷ l) zero = refl
+one-at (x ∷ l) (suc i) = one-at l i
+
+-- a list with no 1
+pub no-ones-at : (l : List ℕ) → allZero (map one l) ≡ true → (i : ℕ) → getD l i 0 ≢ 1
+no-ones-at l e i q =
+    let z : one (getD l i 0) ≡ 0 = sym (one-at l i) ∙ allZero-at (map one l) e i in
+    let o : one (getD l i 0) ≡ 1 = rw (eq-eqb (getD l i 0) 1 q) refl in
+    omega (arith, sym z ∙ o)
+
+-- no row has a sum, and none an erasure left
+unfoldable pub cleanOf : List ℕ → List ℕ → Bool
+cleanOf sum left = allZero sum && allZero left
+
+pub clean-zero : (sum left : List ℕ) → cleanOf sum left ≡ true → (r : ℕ) → (getD sum r 0 ≡ 0) × (getD left r 0 ≡ 0)
+unfolding cleanOf
+clean-zero sum left e r =
+    by-test (allZero sum)
+    (λ t. (allZero-at sum t r, allZero-at left (rw t at e) r))
+    (λ f. absurd (true≢false (sym (rw f at e))))
+
+pub zero-clean : (sum left : List ℕ) → ((r : ℕ) → r < length sum → getD sum r 0 ≡ 0) → ((r : ℕ) → r < length left → getD left r 0 ≡ 0)
+    → cleanOf sum left ≡ true
+unfolding cleanOf
+zero-clean sum left h k = rw (at-allZero sum h) (at-allZero left k)
+
+pub not-clean : (sum left : List ℕ) → allZero sum ≡ false → cleanOf sum left ≡ false
+unfolding cleanOf
+not-clean sum left f = rw f
+
+pub clean-rest : (sum left : List ℕ) → allZero sum ≡ true → cleanOf sum left ≡ allZero left
+unfolding cleanOf
+clean-rest sum left t = rw t
+
+-- acc is the or of the first i numbers, as far as 0 goes
+pub record Gathers (l : List ℕ) (i acc : ℕ) : Type 0 where
+  pub zeros : acc ≡ 0 → (k : ℕ) → k < i → getD l k 0 ≡ 0
+  pub zero : ((k : ℕ) → k < i → getD l k 0 ≡ 0) → acc ≡ 0
+
+pub gathers-none : (l : List ℕ) → Gathers l 0 0
+gathers-none l = record { zeros = λ e k h. absurd (omega arith); zero = λ h. refl }
+
+pub gathers-more : {l : List ℕ} {i acc : ℕ} → Gathers l i acc → Gathers l (i + 1) (bitOr acc (getD l i 0))
+gathers-more {l} {i} {acc} g = record {
+  zeros = λ e.
+      let s : bitOr acc (getD l i 0) + _ ≡ acc + getD l i 0 = or-add-and acc (getD l i 0) in
+      below-more _ i (g .zeros (omega (arith, and-le-r acc (getD l i 0)))) (omega (arith, and-le-l acc (getD l i 0)));
+  zero = λ h. rw (g .zero (λ k m. h k (omega arith)), h i (omega arith)) (or-zero-l 0);
+}
+
+pub gathers-all : {l : List ℕ} {i acc : ℕ} → Gathers l i acc → length l ≤ i → eqb acc 0 ≡ allZero l
+gathers-all {l} {i} {acc} g h =
+    by-test (allZero l)
+    (λ t. eq-eqb acc 0 (g .zero (λ k _. allZero-at l t k)) ∙ sym t)
+    (λ f. ne-eqb acc 0 (λ e. true≢false (sym (at-allZero l (λ k m. g .zeros e k (omega arith))) ∙ f)) ∙ sym f)
+
+-- the tests of one number more
+pub gathers-ones : (l : List ℕ) {i acc : ℕ} → Gathers (map one l) i acc → Gathers (map one l) (i + 1) (bitOr acc (one (getD l i 0)))
+gathers-ones l {i} {acc} g = subst (λ y. Gathers (map one l) (i + 1) (bitOr acc y)) (one-at l i) (gathers-more g)

@@ -1,0 +1,169 @@
+-- Settling one erasure: what a row with one erasure left says, and the list of settled places.
+-- Main results: single (its only place, read off the code), row-forces (T1: the row's sum is what every codeword that agrees adds there),
+-- touched-two (the tables after), settles-none and settles-more.
+use mathlib.Core.Path.{_≡_, refl, sym, _∙_, ap, subst}
+use mathlib.Core.Logic.{_≢_, _⊎_, ⊎-elim, by-cases}
+use mathlib.Core.List.{List, [], _∷_, List·Memᴰ·eq-of-singleton, Memᴰ·cast}
+use mathlib.Core.List.{List·Memᴰ·head as here}
+use Prim.Native.Nat.{ℕ, _+_, _*_, _/_, _%_, _≤_, _<_}
+use native.Mathlib.Decide.{ℕ-discrete}
+use native.Mathlib.Omega.{arith}
+use lib.ListN.{length, getD, set, length-set}
+use lib.Seq.{getD-set-same, getD-set-other}
+use Rattle.math.specs.Members.{_∈_, without}
+use Rattle.math.specs.MembersLaws.{∈-without, without-∈}
+use Rattle.math.specs.Xor.{_⊕_, ⊕-zero, ⊕-self-left}
+use Rattle.math.specs.Sums.{xorOver, only}
+use Rattle.math.specs.SumsLaws.{only-lt, xorOver-lt, xorOver-split}
+use Rattle.plan.specs.Layout.{Layout, Valid, placeOf}
+use Rattle.code.specs.Places.{places, Meets, meets}
+use Rattle.code.specs.Codewords.{syndrome}
+use Rattle.code.specs.Checks.{update, rowPlaces}
+use Rattle.code.specs.Laws.Basics.{place-split}
+use Rattle.code.specs.Laws.Settle.{update-same, update-other, ∈-rowPlaces, row-sum, distinct-row, other-places, row-forced}
+use Rattle.tables.specs.Picture.{codeOf, onRow, Counted, Settles}
+use Rattle.tables.specs.PictureLaws.{Touched}
+use Rattle.tables.specs.Codes.{code-section, code-offset}
+use Rattle.tables.specs.StuckLaws.{∈-onRow, onRow-∈}
+
+pub syndrome-byte : (L : Layout) (u : ℕ → ℕ) (r : ℕ) → ((c : ℕ) → u c < 256) → syndrome L u r < 256
+unfolding syndrome
+syndrome-byte L u r h =
+    xorOver-lt 8 (places L) (λ c. only (meets L c r) (u c)) (λ c m. only-lt (meets L c r) (h c) (omega arith))
+
+-- c is the only erasure on row r, and k is its code
+pub record Single (L : Layout) (E : List ℕ) (r k c : ℕ) : Type 0 where
+  pub member : c ∈ E
+  pub inside : c ∈ places L
+  pub meet : Meets L c r
+  pub sole : (d : ℕ) → d ∈ E → Meets L d r → d ≡ c
+  pub packed : codeOf (L .t) c ≡ k
+  pub section : k / 2048 ≡ c / L .t
+  pub offset : k % 2048 ≡ c % L .t
+  pub number : placeOf (L .t) (k / 2048) (k % 2048) ≡ c
+
+one-member : (l : List ℕ) → length l ≡ 1 → (c : ℕ) × (l ≡ c ∷ [])
+one-member [] e = absurd (omega arith)
+one-member (c ∷ []) e = (c, refl)
+one-member (c ∷ (d ∷ l)) e = absurd (omega arith)
+
+xorOver-single : (c : ℕ) (f : ℕ → ℕ) → xorOver (c ∷ []) f ≡ f c
+unfolding xorOver
+xorOver-single c f = ⊕-zero (f c)
+
+single-of : (L : Layout) → Valid L → L .t ≤ 2048 → {E left code : List ℕ} → Counted L E left code
+    → {r : ℕ} → r < 2 * L .t → (c : ℕ) → onRow L E r ≡ c ∷ [] → Single L E r (getD code r 0) c
+single-of L ok g {E} {code = code} p {r} h c o =
+    let k : codeOf (L .t) c ≡ getD code r 0 = sym (p .codes r h ∙ ap (λ K. xorOver K (codeOf (L .t))) o ∙ xorOver-single c (codeOf (L .t))) in
+    let a : getD code r 0 / 2048 ≡ c / L .t = ap (λ x. x / 2048) (sym k) ∙ code-section (L .t) (ok .positive) g c in
+    let b : getD code r 0 % 2048 ≡ c % L .t = ap (λ x. x % 2048) (sym k) ∙ code-offset (L .t) (ok .positive) g c in
+    let f = onRow-∈ L E r (subst (λ l. c ∈ l) (sym o) (here refl)) in
+    record {
+      member = f .0;
+      inside = p .erased .inside c (f .0);
+      meet = f .1;
+      sole = λ d m y. List·Memᴰ·eq-of-singleton (subst (λ l. d ∈ l) o (∈-onRow L m y));
+      packed = k;
+      section = a;
+      offset = b;
+      number = rw (a, b) (place-split (L .t) c);
+    }
+
+pub single : (L : Layout) → Valid L → L .t ≤ 2048 → {E left code : List ℕ} → Counted L E left code
+    → {r : ℕ} → r < 2 * L .t → getD left r 0 ≡ 1 → Single L E r (getD code r 0) (placeOf (L .t) (getD code r 0 / 2048) (getD code r 0 % 2048))
+single L ok g {E} {code = code} p {r} h e =
+    let o = one-member (onRow L E r) (sym (p .lefts r h) ∙ e) in
+    let s = single-of L ok g p h (o .0) (o .1) in
+    subst (λ c. Single L E r (getD code r 0) c) (sym (s .number)) s
+
+-- a table that is stored to at a and b, the two rows of c; at a the store gives 0
+pub touched-two : (L : Layout) (c : ℕ) (g : ℕ → ℕ) {old new : List ℕ} (a b : ℕ) → a ≢ b → a < length old → b < length old
+    → Meets L c a → Meets L c b → ((s : ℕ) → Meets L c s → (s ≡ a) ⊎ (s ≡ b)) → g (getD old a 0) ≡ 0
+    → new ≡ set (set old a 0) b (g (getD (set old a 0) b 0)) → Touched L c g old new
+touched-two L c g {old} a b n la lb ma mb both z q =
+    let v = g (getD (set old a 0) b 0) in
+    rw q
+    (record {
+      long = length-set (set old a 0) b v ∙ length-set old a 0;
+      on = λ r m. ⊎-elim
+          (λ e. rw e (getD-set-other (set old a 0) b a v 0 n ∙ getD-set-same old a 0 0 la ∙ sym z))
+          (λ e. rw e (getD-set-same (set old a 0) b v 0 (rw (length-set old a 0) lb) ∙ ap g (getD-set-other old a b 0 0 (λ k. n (sym k)))))
+          (both r m);
+      off = λ r k. getD-set-other (set old a 0) b r v 0 (λ e. k (subst (Meets L c) (sym e) mb))
+          ∙ getD-set-other old a r 0 0 (λ e. k (subst (Meets L c) (sym e) ma));
+    })
+
+-- T1: the sum of a row with one erasure left is what every codeword that agrees adds there
+pub row-forces : (L : Layout) {E : List ℕ} (u w : ℕ → ℕ) {r k c : ℕ} → Single L E r k c → syndrome L w r ≡ 0
+    → ((d : ℕ) → d ∈ places L → ¬ (d ∈ E) → w d ≡ u d) → w c ≡ u c ⊕ syndrome L u r
+row-forces L {E} u w {r} {k} {c} s e h =
+    let sole : (d : ℕ) → d ∈ places L → Meets L d r → d ∈ E → d ≡ c = λ d _ y m. s .sole d m y in
+    let rest = xorOver (without c (rowPlaces L r)) u in
+    let parts : syndrome L u r ≡ u c ⊕ rest = sym (row-sum L u r) ∙ xorOver-split u (distinct-row L r) (∈-rowPlaces L (s .inside) (s .meet)) in
+    row-forced L E u r c (s .inside) (s .meet) (s .member) sole w e h
+    ∙ sym (other-places L E u r c (s .inside) (s .meet) (s .member) sole)
+    ∙ sym (ap (λ y. u c ⊕ y) parts ∙ ⊕-self-left (u c) rest)
+
+-- nothing is settled yet
+pub settles-none : (L : Layout) (E : List ℕ) (u : ℕ → ℕ) (place value : List ℕ) → Settles L E u E u place value 0
+settles-none L E u place value = record {
+  fewer = λ c m. m;
+  kept = λ c n. refl;
+  waits = λ c m. refl;
+  forced = λ w z h. h;
+  listed = λ c m n. absurd (n m);
+  settled = λ i h. absurd (omega arith);
+  once = λ i j h k. absurd (omega arith);
+}
+
+-- one place more: y is added at c
+pub settles-more : (L : Layout) {E F : List ℕ} {u x : ℕ → ℕ} {place value place' value' : List ℕ} {k c : ℕ} (y : ℕ) → Settles L E u F x place value k
+    → k < length place → k < length value → place' ≡ set place k c → value' ≡ set value k y → c ∈ F
+    → ((w : ℕ → ℕ) → ((r : ℕ) → r < 2 * L .t → syndrome L w r ≡ 0) → ((d : ℕ) → d ∈ places L → ¬ (d ∈ F) → w d ≡ x d) → w c ≡ x c ⊕ y)
+    → Settles L E u (without c F) (update x c (x c ⊕ y)) place' value' (k + 1)
+settles-more L {E} {F} {u} {x} {place} {value} {place'} {value'} {k} {c} y s hp hv ep ev m f = record {
+  fewer = λ d i. s .fewer d (without-∈ c F i .0);
+  kept = λ d n. other (λ e. n (Memᴰ·cast e (s .fewer c m))) ∙ s .kept d n;
+  waits = λ d i. let o = without-∈ c F i in other (o .1) ∙ s .waits d (o .0);
+  forced = λ w z h d i n.
+      by-cases (ℕ-discrete d c)
+      (λ e. rw e (f w z (s .forced w z h) ∙ sym (update-same x c (x c ⊕ y))))
+      (λ e. s .forced w z h d i (λ o. n (∈-without o e)) ∙ sym (other e));
+  listed = λ d i n.
+      by-cases (ℕ-discrete d c)
+      (λ e. (k, omega arith, last-place ∙ sym e))
+      (λ e. let o = s .listed d i (λ q. n (∈-without q e)) in (o .0, omega (arith, o .1), early-place (o .0) (o .1) ∙ o .2));
+  settled = λ i h.
+      by-cases (ℕ-discrete i k)
+      (λ e. rw (e, last-place, last-value)
+      (s .fewer c m, (λ o. without-∈ c F o .1 refl), update-same x c (x c ⊕ y) ∙ ap (λ z. z ⊕ y) (s .waits c m)))
+      (λ e.
+      let l : i < k = omega arith in
+      let o = s .settled i l in
+      rw (early-place i l, early-value i l)
+      (o .0, (λ q. o .1 (without-∈ c F q .0)), other (new i l) ∙ o .2));
+  once = λ i j h l.
+      let a : i < k = omega arith in
+      by-cases (ℕ-discrete j k)
+      (λ e. rw (early-place i a, e, last-place) (new i a))
+      (λ e. let b : j < k = omega arith in rw (early-place i a, early-place j b) (s .once i j h b));
+}
+  where
+    other : {d : ℕ} → d ≢ c → update x c (x c ⊕ y) d ≡ x d
+    other n = update-other x c (x c ⊕ y) n
+
+    -- c was not listed
+    new : (i : ℕ) → i < k → getD place i 0 ≢ c
+    new i l q = s .settled i l .1 (Memᴰ·cast q m)
+
+    last-place : getD place' k 0 ≡ c
+    last-place = ap (λ l. getD l k 0) ep ∙ getD-set-same place k c 0 hp
+
+    last-value : getD value' k 0 ≡ y
+    last-value = ap (λ l. getD l k 0) ev ∙ getD-set-same value k y 0 hv
+
+    early-place : (i : ℕ) → i < k → getD place' i 0 ≡ getD place i 0
+    early-place i l = ap (λ l. getD l i 0) ep ∙ getD-set-other place k i c 0 (λ e. omega arith)
+
+    early-value : (i : ℕ) → i < k → getD value' i 0 ≡ getD value i 0
+    early-value i l = ap (λ l. getD l i 0) ev ∙ getD-set-other value k i y 0 (λ e. omega arith)

@@ -1,0 +1,28 @@
+// The tests that a list is all zeros, and that it has no 1.
+ghost use mathlib.Core.Path.{_≡_};
+ghost use mathlib.Core.List.{map};
+ghost use Rattle.settling.specs.Fill.{allZero, one};
+
+pub fn zero_bytes(l: &[u8]) -> bool
+    ensures { λ r. ⌜ r ≡ allZero (now (l .entry)) ⌝ }
+{
+    let mut any: u8 = 0;
+    let mut i = 0;
+    while i < l.len() {
+        any = any | l[i];
+        i += 1;
+    }
+    any == 0
+}
+
+pub fn no_ones(l: &[u8]) -> bool
+    ensures { λ r. ⌜ r ≡ allZero (map one (now (l .entry))) ⌝ }
+{
+    let mut any: u8 = 0;
+    let mut i = 0;
+    while i < l.len() {
+        any = any | (l[i] == 1) as u8;
+        i += 1;
+    }
+    any == 0
+}

@@ -1,0 +1,2 @@
+-- When a block is whole.
+pub mod Whole
