@@ -1,20 +1,20 @@
 // The desk: reads a job from standard input and writes its sheet to standard output.
-// The crate job performs the commands, the crate sheet keeps the place in the job; here are the buffers, the reads and the writes.
+// The crate job performs the commands, the crate reading keeps the place in the job; here are the buffers, the reads and the writes.
 ghost use Prim.Native.Nat.{_≤_};
 ghost use lib.ListN.{length};
 use act::BLOCK;
 use act::Held;
 use act::MARKS;
-use job::Turn;
 use job::perform;
 use libc::STDIN_FILENO;
 use libc::STDOUT_FILENO;
 use lines::LINE;
-use sheet::reading::Cursor;
-use sheet::reading::begin;
-use sheet::reading::carry;
-use sheet::reading::used;
+use reading::Cursor;
+use reading::begin;
+use reading::carry;
+use reading::used;
 use sheet::start;
+use turns::Turn;
 
 // Bytes read at once, and bytes of the sheet that may wait to be written.
 const INPUT: usize = 65536;

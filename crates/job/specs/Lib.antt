@@ -1,7 +1,3 @@
--- The job: what a turn does, and the sheet.
-pub mod Sheets
-pub mod OneSheet
-pub mod Turns
-pub mod StandingLaws
-pub mod TurnLaws
-pub mod DispatchLaws
+-- One command of a job over lent buffers: what perform does.
+pub mod Performs
+pub mod PerformLaws

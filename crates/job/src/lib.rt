@@ -9,37 +9,23 @@ ghost use Rattle.lines.specs.Lines.{lineLength};
 ghost use Rattle.commands.specs.Commands.{sizeOf, parsed};
 ghost use Rattle.commands.specs.declared.Parsed.the-variants as parsedAs;
 ghost use Rattle.act.specs.Acts.{Kept};
-ghost use Rattle.job.specs.Turns.{Stops, Turns, Performs};
-use crate::dispatch::dispatch;
-use crate::standing::check_held;
+ghost use Rattle.turns.specs.Turns.{Turns};
+ghost use Rattle.job.specs.Performs.{Performs};
 use act::Held;
 use calls::Check;
-use calls::Refusal;
 use commands::Command;
 use commands::Parsed;
 use commands::parse;
 use commands::size_of;
-use lines::end_line;
-use lines::refused_line;
+use dispatch::dispatch;
+use standing::check_held;
 use state::refusals::refusal;
-
-pub mod dispatch;
-pub mod standing;
-
-// What comes of the bytes at hand. On: the bytes used and the length of the line. End, Stop: the length of the last line.
-pub enum Turn {
-    Wait,
-    End(usize),
-    Stop(usize),
-    On(usize, usize),
-    Bad(Refusal),
-}
-
-// A turn, and the plan after it.
-pub struct Step {
-    pub turn: Turn,
-    pub held: Held,
-}
+use turns::Step;
+use turns::Turn;
+use turns::at_end;
+use turns::cut_off;
+use turns::stop;
+use turns::unknown;
 
 // Performs the command at the front of the bytes. `last`: no more bytes come. `offset`: where the bytes stand in the job.
 pub fn perform(
@@ -77,7 +63,7 @@ fn take_turn(
 {
     match parse(bytes) {
         Parsed::Nothing => at_end(held, line, last),
-        Parsed::Unknown => stop(held, line, 7, offset),
+        Parsed::Unknown => unknown(held, line, offset),
         Parsed::Short => cut_off(held, line, last, offset),
         Parsed::Whole(command) => go(held, block, marks, line, command, size_at(bytes), offset),
     }
@@ -91,50 +77,6 @@ fn size_at(bytes: &[u8]) -> usize
         return 0;
     }
     size_of(bytes[0])
-}
-
-// No bytes are at hand.
-fn at_end(held: Held, line: &mut [u8], last: bool) -> Step
-    requires { ⌜ length (now line) ≡ lineLength ⌝ }
-    ensures { λ r. ⌜ ((v m b : List ℕ) (offset : ℕ) → parsed b ≡ parsedAs.Nothing → Turns held v m (now (line .entry)) b last offset (r .turn) (r .held) v m (now (line .exit))) ⌝ }
-{
-    if !last {
-        return Step {
-            turn: Turn::Wait,
-            held,
-        };
-    }
-    let count = end_line(line);
-    Step {
-        turn: Turn::End(count),
-        held,
-    }
-}
-
-// The bytes end inside a command.
-fn cut_off(held: Held, line: &mut [u8], last: bool, offset: u64) -> Step
-    requires { ⌜ length (now line) ≡ lineLength ⌝ }
-    ensures { λ r. ⌜ ((v m b : List ℕ) → parsed b ≡ parsedAs.Short → Turns held v m (now (line .entry)) b last offset (r .turn) (r .held) v m (now (line .exit))) ⌝ }
-{
-    if !last {
-        return Step {
-            turn: Turn::Wait,
-            held,
-        };
-    }
-    stop(held, line, 8, offset)
-}
-
-// The refusal is written; nothing else changes.
-fn stop(held: Held, line: &mut [u8], number: u8, offset: u64) -> Step
-    requires { ⌜ length (now line) ≡ lineLength ⌝ }
-    ensures { λ r. ⌜ (r .held ≡ held) × Stops number offset (now (line .entry)) (r .turn) (now (line .exit)) ⌝ }
-{
-    let count = refused_line(line, number, offset);
-    Step {
-        turn: Turn::Stop(count),
-        held,
-    }
 }
 
 // A whole command of this size: refused, or performed.

@@ -9,9 +9,9 @@ use lib.Seq.{drop-drop, take-append-seam}
 use Rattle.commands.specs.Commands.{sizeOf}
 use Rattle.state.specs.State.{State}
 use Rattle.act.specs.MeaningOnce.{Standing, means-stands, means-once}
-use Rattle.job.specs.Sheets as sheets
-use Rattle.job.specs.Sheets.{Sheet, start}
-use Rattle.job.specs.OneSheet.{start-stands, sheet-goes, sheet-once}
+use Rattle.turns.specs.Sheets as sheets
+use Rattle.turns.specs.Sheets.{Sheet, start}
+use Rattle.one_sheet.specs.OneSheet.{start-stands, sheet-goes, sheet-once}
 use Rattle.sheet.specs.Running.{Begins, nothing-yet, one-more, Follows, goes, closes, Cut}
 
 -- every sheet of the rest completes first lines to a sheet of the job

@@ -1,22 +1,39 @@
 -- A program that reads a job in parts: the bytes at hand are those of a cursor, and its turns make the job's sheet.
--- Main results: read-starts, read-on, read-wait, read-stop, read-last.
+-- Main results: prefix-performs; read-starts, read-on, read-wait, read-stop, read-last.
 use mathlib.Core.Path.{_≡_, subst}
-use mathlib.Core.Logic.{_⊎_}
+use mathlib.Core.Logic.{_⊎_, inl, inr, ⊎-elim}
 use mathlib.Core.Bool.{Bool, true, false}
 use mathlib.Core.List.{List, [], _∷_, _++_}
 use Prim.Native.Nat.{ℕ, _+_, _^_, _<_}
 use native.Mathlib.Nat.{mod-eq-of-lt}
+use native.Mathlib.Omega.{arith}
 use lib.ListN.{length, take}
+use Rattle.calls.specs.CallsLaws.{stop-or-pass}
 use Rattle.act.specs.Acts.{stateOf}
 use Rattle.act.specs.declared.Held.{Held}
-use Rattle.job.specs.Sheets.{Sheet, start}
-use Rattle.job.specs.Turns.{Turns}
-use Rattle.job.specs.declared.Turn.{Turn}
-use Rattle.job.specs.declared.Turn.the-variants.{Wait, End, Stop, On}
-use Rattle.sheet.specs.Cursors.{hand, atStart, usedOf, carriedOf, behind}
-use Rattle.sheet.specs.CursorLaws.{hand-start, hand-used, read-behind}
-use Rattle.sheet.specs.Parts.{joined, Fed, fed-sheet, fed-on, fed-wait, fed-stop, fed-last}
-use Rattle.sheet.specs.declared.reading.Cursor.{Cursor}
+use Rattle.turns.specs.Sheets.{Sheet, start}
+use Rattle.standing.specs.Standing.{heldCheck}
+use Rattle.turns.specs.Turns.{Same, Turns}
+use Rattle.turns.specs.declared.Turn.{Turn}
+use Rattle.turns.specs.declared.Turn.the-variants.{Wait, End, Stop, On}
+use Rattle.reading.specs.Cursors.{hand, atStart, usedOf, carriedOf, behind}
+use Rattle.reading.specs.CursorLaws.{hand-start, hand-used, read-behind}
+use Rattle.job.specs.Performs.{Performs}
+use Rattle.one_sheet.specs.Parts.{joined, Fed, prefix-turns, fed-sheet, fed-on, fed-wait, fed-stop, fed-last}
+use Rattle.reading.specs.declared.Cursor.{Cursor}
+
+zero-one : _≡_ {A = ℕ} 0 1 → ⊥
+zero-one e = omega arith
+
+module _ {h : Held} {v m l a : List ℕ} {o : ℕ} {turn : Turn} {h' : Held} {v' m' l' : List ℕ} where
+  -- perform with more bytes to come waits, or answers exactly what it answers on all the bytes
+  pub prefix-performs : Performs h v m l a false o turn h' v' m' l' →
+      ((turn ≡ Wait) × Same h v m h' v' m' × (l' ≡ l)) ⊎ ((b : List ℕ) (last : Bool) → Performs h v m l (a ++ b) last o turn h' v' m' l')
+  prefix-performs p =
+      ⊎-elim
+      (λ pass. ⊎-elim (λ w. inl w) (λ w. inr (λ b last. record { bad = λ x q. absurd (zero-one (cc)); passed = λ _. w b last })) (prefix-turns (p .passed pass)))
+      (λ s. inr (λ b last. record { bad = p .bad; passed = λ q. let e = s .1 in absurd (zero-one (cc)) }))
+      (stop-or-pass (heldCheck h v m l))
 
 -- before the first read nothing is at hand: what comes of the parts is the sheet of the job
 pub read-starts : (buffer : List ℕ) {parts : List (List ℕ)} {text : List ℕ} → Fed (atStart .offset) start (hand atStart buffer) parts text → Sheet 0 start (joined parts) text

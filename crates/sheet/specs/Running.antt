@@ -1,5 +1,5 @@
 -- What a run over a whole job promises, and what holds on the way.
--- Main definitions: Begins, Follows, Cut, Runs; Put, Running.
+-- Main definitions: Begins, Follows, Cut, Runs; Running.
 use mathlib.Core.Path.{_≡_}
 use mathlib.Core.Logic.{_≢_}
 use mathlib.Core.List.{List, [], _++_}
@@ -8,13 +8,13 @@ use lib.ListN.{length, getD, take, drop}
 use Rattle.commands.specs.Commands.{sizeOf, parsed}
 use Rattle.commands.specs.declared.Command.{Command}
 use Rattle.commands.specs.declared.Parsed.the-variants as front
-use Rattle.lines.specs.Lines.{lineLength, Appends}
+use Rattle.lines.specs.Lines.{lineLength}
 use Rattle.state.specs.State.{State}
 use Rattle.state.specs.Refusals.{refusalOf}
 use Rattle.act.specs.Meaning.{Means}
 use Rattle.act.specs.Acts.{stateOf, Kept}
 use Rattle.act.specs.declared.Held.{Held}
-use Rattle.job.specs.Sheets.{Sheet, start}
+use Rattle.turns.specs.Sheets.{Sheet, start}
 use Rattle.sheet.specs.declared.Ran.{Ran}
 use Rattle.sheet.specs.declared.Ran.the-variants.{Whole, Full}
 
@@ -50,11 +50,6 @@ pub record Runs (job sheet : List ℕ) (r : Ran) (sheet' : List ℕ) : Type 0 wh
   pub within : written r ≤ length sheet
   pub long : length sheet' ≡ length sheet
   pub rest : drop (written r) sheet' ≡ drop (written r) sheet
-
--- a line was put on the sheet, or there is no room for it and nothing was written
-pub data Put (l : List ℕ) (count : ℕ) (sheet : List ℕ) (to phase : ℕ) (sheet' : List ℕ) (to' phase' : ℕ) : Type 0 where
-  fits : phase' ≡ phase → Appends sheet to (take count l) sheet' to' → Put l count sheet to phase sheet' to' phase'
-  no-room : phase' ≡ 2 → to' ≡ to → sheet' ≡ sheet → length sheet < to + count → Put l count sheet to phase sheet' to' phase'
 
 -- on the way: the state is kept, and the lines so far begin or make the sheet; `lent` is the sheet as it was lent
 pub record Running (job lent : List ℕ) (h : Held) (v m l : List ℕ) (at to : ℕ) (sheet : List ℕ) (phase : ℕ) : Type 0 where

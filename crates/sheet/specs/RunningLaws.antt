@@ -1,145 +1,44 @@
--- From turns to the sheet: what a turn with the last bytes at hand comes to, and how each step keeps the run going.
--- Main results: outcome, turned; on-count, end-count, stop-count; next-on, next-close, never-waits, never-bad; run-start, run-less, run-whole, run-full;
--- put-fits, put-full; held-start.
+-- From turns to the sheet: how each step keeps the run going.
+-- Main results: turned, turn-fits, next-placed; run-start, run-less, run-whole, run-full; held-start, held-ready.
 use mathlib.Core.Path.{_≡_, refl, sym, _∙_, ap, subst}
-use mathlib.Core.Logic.{_≢_, by-cases}
+use mathlib.Core.Logic.{by-cases}
 use mathlib.Core.Bool.{true, false, cond}
-use mathlib.Core.List.{List, [], _++_, append-assoc}
-use Prim.Native.Nat.{ℕ, suc, _+_, _-_, _≤_, _<_}
+use mathlib.Core.List.{List, []}
+use Prim.Native.Nat.{ℕ, suc, _+_, _-_, _^_, _≤_, _<_}
 use native.Mathlib.Decide.{ℕ-discrete}
 use native.Mathlib.Omega.{arith}
 use lib.Dec.{eqb}
 use lib.ListN.{length, getD, take, drop, replicate, length-take, length-drop, length-append}
-use lib.Seq.{take-all, take-at, drop-at, drop-drop, length-take-le}
+use lib.Seq.{take-all, drop-drop, length-take-le}
 use borrow.Author.Tests.{eq-eqb, ne-eqb}
 use Rattle.plan.specs.Layout.{layout}
 use Rattle.plan.specs.Plans.{layoutOf}
 use Rattle.code.specs.Marks.{markBytes}
-use Rattle.calls.specs.declared.Refusal.{Refusal}
 use Rattle.commands.specs.Commands.{sizeOf, parsed}
 use Rattle.commands.specs.declared.Command.{Command}
-use Rattle.commands.specs.declared.Parsed.{Parsed}
-use Rattle.commands.specs.declared.Parsed.the-variants.{Whole, Unknown, Short, Nothing}
-use Rattle.lines.specs.Lines.{line, endWord, lineLength, Appends}
+use Rattle.commands.specs.declared.Parsed.the-variants.{Whole}
+use Rattle.lines.specs.Lines.{lineLength, Appends}
 use Rattle.state.specs.State.{State}
 use Rattle.state.specs.Refusals.{refusalOf}
 use Rattle.act.specs.Acts.{blockLength, marksLength, stateOf, Kept, Acts}
 use Rattle.act.specs.declared.Held.{Held}
-use Rattle.job.specs.Sheets as sheets
-use Rattle.job.specs.Sheets.{Sheet, start}
-use Rattle.job.specs.Turns.{Same, Turns, Performs}
-use Rattle.job.specs.StandingLaws.{kept-pass}
-use Rattle.job.specs.declared.Turn.{Turn}
-use Rattle.job.specs.declared.Turn.the-variants.{Wait, End, Stop, On, Bad}
-use Rattle.sheet.specs.Running.{Begins, nothing-yet, one-more, Follows, goes, closes, Cut, Runs, Put, fits, no-room, Running}
+use Rattle.turns.specs.Sheets.{start}
+use Rattle.standing.specs.StandingLaws.{kept-pass}
+use Rattle.turns.specs.Turns.{Same}
+use Rattle.job.specs.Performs.{Performs}
+use Rattle.turns.specs.declared.Turn.{Turn}
+use Rattle.turns.specs.declared.Turn.the-variants.{On}
+use Rattle.putting.specs.Putting.{Put, fits, no-room, Fits, Placed, on, ended, stopped, waits, bad}
+use Rattle.one_sheet.specs.Outcomes.{Closing, Outcome, outcome, on-count, end-count, stop-count, never-waits, never-bad}
+use Rattle.sheet.specs.Running.{Begins, nothing-yet, one-more, Follows, goes, closes, Cut, Runs, Running}
 use Rattle.sheet.specs.BeginsLaws.{begins-more}
-use Rattle.sheet.specs.ParsedLaws.{nothing-empty, whole-size}
 use Rattle.sheet.specs.declared.Ran.the-variants as ran
 
 zero-one : _≡_ {A = ℕ} 0 1 → ⊥
 zero-one e = omega arith
 
--- the line closes the sheet: no command goes on from here
-pub record Closing (o : ℕ) (s : State) (b said : List ℕ) : Type 0 where
-  pub none-goes : (c : Command) → parsed b ≡ Whole c → refusalOf s c ≢ 0
-  pub sheet : Sheet o s b said
-
--- what a turn comes to when no more bytes come: it goes on, or its line closes the sheet
-pub data Outcome (h : Held) (v m b : List ℕ) (o : ℕ) (turn : Turn) (h' : Held) (v' m' l' : List ℕ) : Type 0 where
-  went : (used count : ℕ) → turn ≡ On used count → (c : Command) → parsed b ≡ Whole c → refusalOf (stateOf h v m) c ≡ 0 → used ≡ sizeOf (getD b 0 0) →
-      count ≤ length l' → Acts c h v m (take count l') h' v' m' → Outcome h v m b o turn h' v' m' l'
-  ended : (count : ℕ) → turn ≡ End count → count ≤ length l' → Closing o (stateOf h v m) b (take count l') → Same h v m h' v' m' → Outcome h v m b o turn h' v' m' l'
-  stopped : (count : ℕ) → turn ≡ Stop count → count ≤ length l' → Closing o (stateOf h v m) b (take count l') → Same h v m h' v' m' → Outcome h v m b o turn h' v' m' l'
-
-pub outcome : {h : Held} {v m l b : List ℕ} {o : ℕ} {turn : Turn} {h' : Held} {v' m' l' : List ℕ} → Turns h v m l b true o turn h' v' m' l' → Outcome h v m b o turn h' v' m' l'
-outcome {h} {v} {m} {l} {b} {o} {turn} {h'} {v'} {m'} {l'} t = go (parsed b) refl
-  where
-    closing : {said : List ℕ} (count : ℕ) → take count l' ≡ said → Sheet o (stateOf h v m) b said → ((c : Command) → parsed b ≡ Whole c → refusalOf (stateOf h v m) c ≢ 0) →
-        Closing o (stateOf h v m) b (take count l')
-    closing count e s n = record { none-goes = n; sheet = subst (Sheet o (stateOf h v m) b) (sym e) s }
-
-    go : (p : Parsed) → parsed b ≡ p → Outcome h v m b o turn h' v' m' l'
-    go (Whole c) e =
-        by-cases (ℕ-discrete (refusalOf (stateOf h v m) c) 0)
-        (λ z. let g = t .goes-on c e z in
-        went _ (g .count) (g .on) c e z refl (g .wrote .within) (subst (λ x. Acts c h v m x h' v' m') (sym (g .wrote .text-stands)) (g .acts)))
-        (λ n. let g = t .refused c e n in
-        stopped (g .0 .count) (g .0 .stopped) (g .0 .wrote .within)
-        (closing (g .0 .count) (g .0 .wrote .text-stands) (sheets.refused c e n) (λ d f. let q : c ≡ d = cc in subst (λ (x : Command). refusalOf (stateOf h v m) x ≢ 0) q n)) (g .1))
-    go Unknown e =
-        let g = t .unknown e in
-        stopped (g .0 .count) (g .0 .stopped) (g .0 .wrote .within) (closing (g .0 .count) (g .0 .wrote .text-stands) (sheets.unknown e) (λ d f. absurd (zero-one (cc)))) (g .1)
-    go Short e =
-        let g = t .short e refl in
-        stopped (g .0 .count) (g .0 .stopped) (g .0 .wrote .within) (closing (g .0 .count) (g .0 .wrote .text-stands) (sheets.short e) (λ d f. absurd (zero-one (cc)))) (g .1)
-    go Nothing e =
-        let g = t .ends e refl in
-        ended (g .0 .count) (g .0 .ended) (g .0 .wrote .within)
-        (closing (g .0 .count) (g .0 .wrote .text-stands) (subst (λ x. Sheet o (stateOf h v m) x (line endWord [])) (sym (nothing-empty b e)) sheets.ends) (λ d f. absurd (zero-one (cc)))) (g .1)
-
-module _ {h : Held} {v m b : List ℕ} {o : ℕ} {turn : Turn} {h' : Held} {v' m' l' : List ℕ} where
-  pub on-count : (used count : ℕ) → turn ≡ On used count → Outcome h v m b o turn h' v' m' l' →
-      (count ≤ length l') × (0 < used) × (used ≤ length b)
-      × ((c : Command) × (parsed b ≡ Whole c) × (refusalOf (stateOf h v m) c ≡ 0) × (used ≡ sizeOf (getD b 0 0)) × Acts c h v m (take count l') h' v' m')
-  on-count used count e (went u k f c w z q small a) =
-      let s : used ≡ u = cc in
-      let t : count ≡ k = cc in
-      let y = whole-size b c w in
-      (rw t small, omega arith, omega arith, (c, w, z, s ∙ q, rw t a))
-  on-count used count e (ended k f small s y) = absurd (zero-one (cc))
-  on-count used count e (stopped k f small s y) = absurd (zero-one (cc))
-
-  pub end-count : (count : ℕ) → turn ≡ End count → Outcome h v m b o turn h' v' m' l' → (count ≤ length l') × Closing o (stateOf h v m) b (take count l') × Same h v m h' v' m'
-  end-count count e (went u k f c w z q small a) = absurd (zero-one (cc))
-  end-count count e (ended k f small s y) = let t : count ≡ k = cc in (rw t small, rw t s, y)
-  end-count count e (stopped k f small s y) = absurd (zero-one (cc))
-
-  pub stop-count : (count : ℕ) → turn ≡ Stop count → Outcome h v m b o turn h' v' m' l' → (count ≤ length l') × Closing o (stateOf h v m) b (take count l') × Same h v m h' v' m'
-  stop-count count e (went u k f c w z q small a) = absurd (zero-one (cc))
-  stop-count count e (ended k f small s y) = absurd (zero-one (cc))
-  stop-count count e (stopped k f small s y) = let t : count ≡ k = cc in (rw t small, rw t s, y)
-
-  pub never-waits : turn ≡ Wait → Outcome h v m b o turn h' v' m' l' → ⊥
-  never-waits e (went u k f c w z q small a) = zero-one (cc)
-  never-waits e (ended k f small s y) = zero-one (cc)
-  never-waits e (stopped k f small s y) = zero-one (cc)
-
-  pub never-bad : (x : Refusal) → turn ≡ Bad x → Outcome h v m b o turn h' v' m' l' → ⊥
-  never-bad x e (went u k f c w z q small a) = zero-one (cc)
-  never-bad x e (ended k f small s y) = zero-one (cc)
-  never-bad x e (stopped k f small s y) = zero-one (cc)
-
 kept-same : {h : Held} {v m : List ℕ} {h' : Held} {v' m' : List ℕ} → Kept h v m → Same h v m h' v' m' → Kept h' v' m'
 kept-same k s = rw (s .held, s .block, s .marks) k
-
--- ---- a line on the sheet
-
-pub put-full : (l : List ℕ) (count : ℕ) (sheet : List ℕ) (to phase : ℕ) → to ≤ length sheet → length sheet - to < count → Put l count sheet to phase sheet to 2
-put-full l count sheet to phase h g = no-room refl refl refl (omega arith)
-
-pub put-fits : (l : List ℕ) (count : ℕ) (sheet : List ℕ) (to phase : ℕ) (x : List ℕ) → count ≤ length l → to + count ≤ length sheet → x ≡ take count l →
-    Put l count sheet to phase (take to sheet ++ (x ++ drop (to + count - to) (drop to sheet))) (to + count) phase
-put-fits l count sheet to phase x a b e =
-    let rest : List ℕ = drop (to + count - to) (drop to sheet) in
-    let lx : length x ≡ count = ap length e ∙ length-take-le count l a in
-    let lt : length (take to sheet) ≡ to = length-take-le to sheet (omega arith) in
-    let lc : length (take count l) ≡ count = length-take-le count l a in
-    let k : length (take to sheet ++ x) ≡ to + count = length-append (take to sheet) x ∙ (omega (arith, lx, lt)) in
-    let lr : length rest ≡ length sheet - to - count = rw (length-drop (to + count - to) (drop to sheet), length-drop to sheet) (omega arith) in
-    let back : to + (to + count - to) ≡ to + count = omega arith in
-    fits refl (record {
-      text-stands = ap (take (to + count)) (sym (append-assoc (take to sheet) x rest)) ∙ take-at (take to sheet ++ x) rest (to + count) k ∙ ap (λ y. take to sheet ++ y) e;
-      past = ap (λ n. to + n) (sym lc);
-      long = rw (length-append (take to sheet) (x ++ rest), length-append x rest) (omega (arith, lx, lt, lr));
-      rest = ap (drop (to + count)) (sym (append-assoc (take to sheet) x rest)) ∙ drop-at (take to sheet ++ x) rest (to + count) k
-          ∙ drop-drop (to + count - to) to sheet ∙ ap (λ n. drop n sheet) back;
-    })
-
-pub put-long : (l : List ℕ) (count : ℕ) (sheet : List ℕ) (to : ℕ) → count ≤ length l → to + count ≤ length sheet →
-    length (take count l) ≡ length (take (to + count - to) (drop to sheet))
-put-long l count sheet to a b =
-    let e : to + count - to ≡ count = omega arith in
-    length-take-le count l a ∙ sym (rw e (length-take-le count (drop to sheet) (omega (arith, length-drop to sheet))))
 
 -- ---- one step of the run
 
@@ -152,6 +51,13 @@ module _ {job lent : List ℕ} {h : Held} {v m l : List ℕ} {at to : ℕ} {shee
       Outcome h v m (drop at job) at turn h' v' m' l'
   turned {turn} {h'} {v'} {m'} {l'} p =
       subst (λ b. Outcome h v m b at turn h' v' m' l') part-is (outcome (p .passed (kept-pass h v m l (r .kept) (r .line-long))))
+
+  pub turn-fits : {turn : Turn} {h' : Held} {v' m' l' : List ℕ} → length job < 2 ^ 64 → Outcome h v m (drop at job) at turn h' v' m' l' → Fits turn at (length l')
+  turn-fits big o = record {
+    on = λ used count e. let w = on-count used count e o in (w .0, omega (arith, w .2, length-drop at job, r .inside));
+    ended = λ count e. end-count count e o .0;
+    stopped = λ count e. stop-count count e o .0;
+  }
 
   -- the sheet after the line: within the lent one, and past it as it was lent
   after : {said sheet' : List ℕ} {to' : ℕ} → Appends sheet to said sheet' to' → (to' ≤ length sheet') × (length sheet' ≡ length lent) × (drop to' sheet' ≡ drop to' lent)
@@ -177,7 +83,7 @@ module _ {job lent : List ℕ} {h : Held} {v m l : List ℕ} {at to : ℕ} {shee
       })
 
   -- a turn that goes on, its line put
-  pub next-on : {turn : Turn} {h' g : Held} {v' m' l' sheet' : List ℕ} (used count : ℕ) {x to' phase' : ℕ} → turn ≡ On used count → Outcome h v m (drop at job) at turn h' v' m' l' →
+  next-on : {turn : Turn} {h' g : Held} {v' m' l' sheet' : List ℕ} (used count : ℕ) {x to' phase' : ℕ} → turn ≡ On used count → Outcome h v m (drop at job) at turn h' v' m' l' →
       length l' ≡ length l → g ≡ h' → x ≡ at + used → Put l' count sheet to 0 sheet' to' phase' →
       Running job lent g v' m' l' x to' sheet' phase' × (phase' ≡ 0 → at < x)
   next-on {turn} {h'} {g} {v'} {m'} {l'} {sheet'} used count {x} {to'} {phase'} e o long same-held step put = go put
@@ -230,7 +136,7 @@ module _ {job lent : List ℕ} {h : Held} {v m l : List ℕ} {at to : ℕ} {shee
       )
 
   -- a turn that closes the sheet, its line put
-  pub next-close : {h' g : Held} {v' m' l' sheet' : List ℕ} (count : ℕ) {x to' phase' : ℕ} → count ≤ length l' → Closing at (stateOf h v m) (drop at job) (take count l') →
+  next-close : {h' g : Held} {v' m' l' sheet' : List ℕ} (count : ℕ) {x to' phase' : ℕ} → count ≤ length l' → Closing at (stateOf h v m) (drop at job) (take count l') →
       Same h v m h' v' m' → length l' ≡ length l → g ≡ h' → x ≡ at → Put l' count sheet to 1 sheet' to' phase' →
       Running job lent g v' m' l' x to' sheet' phase' × (phase' ≡ 0 → at < x)
   next-close {h'} {g} {v'} {m'} {l'} {sheet'} count {x} {to'} {phase'} fit s y long same-held step put = go put
@@ -269,6 +175,15 @@ module _ {job lent : List ℕ} {h : Held} {v m l : List ℕ} {at to : ℕ} {shee
         },
         λ q. absurd (omega arith),
       )
+
+  -- the line of any turn put
+  pub next-placed : {turn : Turn} {h' g : Held} {v' m' l' sheet' : List ℕ} {x to' phase' : ℕ} → Outcome h v m (drop at job) at turn h' v' m' l' → length l' ≡ length l → g ≡ h' →
+      Placed turn at l' sheet to sheet' x to' phase' → Running job lent g v' m' l' x to' sheet' phase' × (phase' ≡ 0 → at < x)
+  next-placed o long same-held (on used count e a p) = next-on used count e o long same-held a p
+  next-placed o long same-held (ended count e a p) = let q = end-count count e o in next-close count (q .0) (q .1) (q .2) long same-held a p
+  next-placed o long same-held (stopped count e a p) = let q = stop-count count e o in next-close count (q .0) (q .1) (q .2) long same-held a p
+  next-placed o long same-held (waits e a b d f) = absurd (never-waits e o)
+  next-placed o long same-held (bad y e a b d f) = absurd (never-bad y e o)
 
 -- ---- the loop
 

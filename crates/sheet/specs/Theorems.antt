@@ -8,12 +8,12 @@ use native.Mathlib.Omega.{arith}
 use lib.ListN.{length, getD, take, drop, take-append-drop}
 use lib.Seq.{length-take-le}
 use Rattle.code.specs.Codewords.{Single}
-use Rattle.job.specs.Sheets.{Sheet, start}
-use Rattle.job.specs.OneSheet.{one-sheet}
+use Rattle.turns.specs.Sheets.{Sheet, start}
+use Rattle.one_sheet.specs.OneSheet.{one-sheet}
 use Rattle.sheet.specs.Running.{Runs, written}
 use Rattle.sheet.specs.BeginsLaws.{cut-sheet}
-use Rattle.sheet.specs.SomeSheet.{sheet-single}
-use Rattle.sheet.specs.Parts.{joined, Fed, fed-sheet, sheet-fed}
+use Rattle.one_sheet.specs.SomeSheet.{sheet-single}
+use Rattle.one_sheet.specs.Parts.{joined, Fed, fed-sheet, sheet-fed}
 use Rattle.sheet.specs.declared.Ran.{Ran}
 use Rattle.sheet.specs.declared.Ran.the-variants.{Whole, Full}
 

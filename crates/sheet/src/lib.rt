@@ -1,37 +1,27 @@
 // A whole job over one slice: command after command is performed, line after line is put on a lent sheet.
-// Entries: run; start, and the cursor of `reading`, for programs that read a job in parts.
+// Entries: run; start, for programs that read a job in parts.
 ghost use mathlib.Core.Path.{_≡_};
 ghost use mathlib.Core.List.{List};
-ghost use Prim.Native.Nat.{ℕ, _≤_, _<_};
+ghost use Prim.Native.Nat.{ℕ, _<_};
 ghost use lib.ListN.{length};
 ghost use Rattle.lines.specs.Lines.{lineLength};
 ghost use Rattle.act.specs.Acts.{Kept, stateOf};
-ghost use Rattle.job.specs.Sheets as sheets;
-ghost use Rattle.sheet.specs.Running.{Runs, Running, Put};
+ghost use Rattle.turns.specs.Sheets as sheets;
+ghost use Rattle.sheet.specs.Running.{Runs, Running};
 ghost use Rattle.sheet.specs.RunningLaws.{unplanned};
 use act::BLOCK;
 use act::Held;
 use act::MARKS;
-use job::Turn;
 use job::perform;
 use lines::LINE;
 use plan::Plan;
-use runs::parts::copy;
-
-pub mod reading;
+use putting::Reached;
+use putting::put_turn;
 
 // Whole: the sheet's length. Full: the lent sheet is too short; the length of the lines that fitted.
 pub enum Ran {
     Whole(usize),
     Full(usize),
-}
-
-// After a turn: the plan, the place in the job, the length of the sheet so far; phase 0: more may follow, 1: closed, 2: the sheet is full.
-pub struct Reached {
-    pub held: Held,
-    pub at: usize,
-    pub to: usize,
-    pub phase: u8,
 }
 
 // A job starts with no plan.
@@ -121,62 +111,5 @@ fn next(
         true,
         at as u64,
     );
-    let turn = step.turn;
-    let after = step.held;
-    match turn {
-        Turn::On(used, count) => put_line(
-            after,
-            at + used,
-            &line[..],
-            count,
-            &mut sheet[..],
-            to,
-            0,
-        ),
-        Turn::End(count) => put_line(after, at, &line[..], count, &mut sheet[..], to, 1),
-        Turn::Stop(count) => put_line(after, at, &line[..], count, &mut sheet[..], to, 1),
-        Turn::Wait => Reached {
-            held: after,
-            at,
-            to,
-            phase: 2,
-        },
-        Turn::Bad(_) => Reached {
-            held: after,
-            at,
-            to,
-            phase: 2,
-        },
-    }
-}
-
-// The line is put on the sheet, if it fits.
-fn put_line(
-    held: Held,
-    at: usize,
-    line: &[u8],
-    count: usize,
-    sheet: &mut [u8],
-    to: usize,
-    phase: u8,
-) -> Reached
-    requires { ⌜ (count ≤ length (now line)) × (to ≤ length (now sheet)) ⌝ }
-    ensures { λ r. ⌜ (r .held ≡ held) × (r .at ≡ at) × Put (now (line .entry)) count (now (sheet .entry)) to phase (now (sheet .exit)) (r .to) (r .phase) ⌝ }
-{
-    if sheet.len() - to < count {
-        return Reached {
-            held,
-            at,
-            to,
-            phase: 2,
-        };
-    }
-    let end = to + count;
-    copy(&line[..count], &mut sheet[to..end]);
-    Reached {
-        held,
-        at,
-        to: end,
-        phase,
-    }
+    put_turn(step, at, &line[..], &mut sheet[..], to)
 }

@@ -1,5 +1,5 @@
 -- What is carried stands within the input, so that more can be read behind it.
-use Rattle.sheet.specs.CursorLaws.{carried-fits}
+use Rattle.reading.specs.CursorLaws.{carried-fits}
 use borrow.Author.Needs.{needs}
 use Rattle.desk.proofs.refill.Statement.{statement}
 use Rattle.desk.proofs.refill.Tie as tie

@@ -1,7 +1,7 @@
 -- Refused, or performed.
-use mathlib.Core.Path.{_≡_, refl, sym, _∙_}
+use mathlib.Core.Path.{refl, sym, _∙_}
 use Rattle.act.specs.Acts.{stateOf}
-use Rattle.job.specs.TurnLaws.{on-refused, on-acts}
+use Rattle.turns.specs.TurnLaws.{on-refused, on-acts}
 use borrow.Author.Needs.{needs}
 use Rattle.job.proofs.go.Statement.{statement}
 use Rattle.job.proofs.go.Tie as tie

@@ -1,7 +1,7 @@
 -- What refuses the state, then the turn.
-use mathlib.Core.Path.{_≡_, refl, sym, _∙_}
-use Rattle.job.specs.StandingLaws.{pass-kept}
-use Rattle.job.specs.TurnLaws.{performs-bad, performs-passed}
+use mathlib.Core.Path.{sym, _∙_}
+use Rattle.standing.specs.StandingLaws.{pass-kept}
+use Rattle.job.specs.PerformLaws.{performs-bad, performs-passed}
 use borrow.Author.Needs.{needs}
 use Rattle.job.proofs.perform.Statement.{statement}
 use Rattle.job.proofs.perform.Tie as tie

@@ -1,5 +1,5 @@
 -- The first byte says the size.
-use Rattle.job.specs.StandingLaws.{size-none}
+use Rattle.job.specs.PerformLaws.{size-none}
 use borrow.Author.Needs.{needs}
 use Rattle.job.proofs.size_at.Statement.{statement}
 use Rattle.job.proofs.size_at.Tie as tie

@@ -1,6 +1,5 @@
 -- By what stands at the front of the bytes.
-use mathlib.Core.Path.{_≡_, refl, sym, _∙_}
-use Rattle.job.specs.TurnLaws.{on-unknown}
+use mathlib.Core.Path.{sym, _∙_}
 use borrow.Author.Needs.{needs}
 use Rattle.job.proofs.take_turn.Statement.{statement}
 use Rattle.job.proofs.take_turn.Tie as tie
@@ -17,8 +16,8 @@ at-end-requires c κs = c .before .before .before .before .before .before .befor
 enum-told-2 : tie.Need-enum-told-2
 enum-told-2 c = search needs
 
-stop-requires : tie.Need-stop-requires
-stop-requires c κs = c .before .before .before .before .before .before .before .before .pre .1
+unknown-requires : tie.Need-unknown-requires
+unknown-requires c κs = c .before .before .before .before .before .before .before .before .pre .1
 
 enum-told-3 : tie.Need-enum-told-3
 enum-told-3 c = search needs
@@ -42,10 +41,10 @@ returns : tie.Need-returns
 returns c = c .before .before .at-end .ensures _ _ _ _ (sym (c .before .before .before .before .before .before .parse .ensures) ∙ c .before .before .before .before .enum-told .given .1)
 
 same-length-2 : tie.Need-same-length-2
-same-length-2 c = c .before .before .stop .kept .1 .0
+same-length-2 c = c .before .before .unknown .kept .1 .0
 
 returns-2 : tie.Need-returns-2
-returns-2 c = on-unknown (sym (c .before .before .before .before .before .before .parse .ensures) ∙ c .before .before .before .before .enum-told2 .given .1) (c .before .before .stop .ensures .1) (record { held = c .before .before .stop .ensures .0; block = refl; marks = refl })
+returns-2 c = c .before .before .unknown .ensures _ _ _ _ (sym (c .before .before .before .before .before .before .parse .ensures) ∙ c .before .before .before .before .enum-told2 .given .1)
 
 same-length-3 : tie.Need-same-length-3
 same-length-3 c = c .before .before .cut-off .kept .1 .0
@@ -66,4 +65,4 @@ returns-4 : tie.Need-returns-4
 returns-4 c = c .before .before .before .before .before .before .go .ensures _ _ (sym (c .before .before .before .before .before .before .before .before .before .before .before .before .before .before .parse .ensures) ∙ c .before .before .before .before .before .before .before .before .before .before .before .before .command .given .1) (c .before .before .before .before .before .before .before .size-at .ensures)
 
 pub take-turn-spec : {M : Type 1} → statement M
-take-turn-spec = tie.close (tie.spec parse-requires enum-told at-end-requires enum-told-2 stop-requires enum-told-3 cut-off-requires enum-known-command size-at-requires go-requires same-length returns same-length-2 returns-2 same-length-3 returns-3 same-length-4 same-length-5 same-length-6 returns-4)
+take-turn-spec = tie.close (tie.spec parse-requires enum-told at-end-requires enum-told-2 unknown-requires enum-told-3 cut-off-requires enum-known-command size-at-requires go-requires same-length returns same-length-2 returns-2 same-length-3 returns-3 same-length-4 same-length-5 same-length-6 returns-4)

@@ -1,0 +1,48 @@
+-- A command that is known: what does not refuse it, and that it was performed.
+-- Main results: refusal-is, new-any, straight-any, powers-any, ruler-any, shift-any; quiet-acts, told-acts.
+use mathlib.Core.Path.{_≡_, sym, subst}
+use mathlib.Core.List.{List, []}
+use Prim.Native.Nat.{ℕ}
+use lib.ListN.{take}
+use Rattle.commands.specs.declared.Command.{Command}
+use Rattle.commands.specs.declared.Command.the-variants.{NewPlan, SetShift, Straight, Powers, Ruler}
+use Rattle.lines.specs.Lines.{Wrote}
+use Rattle.lines.specs.LinesLaws.{wrote-none}
+use Rattle.state.specs.State.{State}
+use Rattle.state.specs.Refusals.{refusalOf}
+use Rattle.act.specs.Acts.{stateOf, Acts}
+use Rattle.act.specs.declared.Held.{Held}
+
+pub refusal-is : (s : State) {c k : Command} → c ≡ k → refusalOf s c ≡ 0 → refusalOf s k ≡ 0
+refusal-is s e r = subst (λ (x : Command). refusalOf s x ≡ 0) e r
+
+-- commands that make a plan do not depend on the state
+module _ (s x : State) where
+  pub new-any : (n t : ℕ) → refusalOf s (NewPlan n t) ≡ 0 → refusalOf x (NewPlan n t) ≡ 0
+  unfolding refusalOf
+  new-any n t e = e
+
+  pub straight-any : (n t : ℕ) → refusalOf s (Straight n t) ≡ 0 → refusalOf x (Straight n t) ≡ 0
+  unfolding refusalOf
+  straight-any n t e = e
+
+  pub powers-any : (n t q : ℕ) → refusalOf s (Powers n t q) ≡ 0 → refusalOf x (Powers n t q) ≡ 0
+  unfolding refusalOf
+  powers-any n t q e = e
+
+  pub ruler-any : (n : ℕ) → refusalOf s (Ruler n) ≡ 0 → refusalOf x (Ruler n) ≡ 0
+  unfolding refusalOf
+  ruler-any n e = e
+
+-- a shift depends on the plan alone
+pub shift-any : (h : Held) (v m v' m' : List ℕ) (j p : ℕ) → refusalOf (stateOf h v m) (SetShift j p) ≡ 0 → refusalOf (stateOf h v' m') (SetShift j p) ≡ 0
+unfolding refusalOf stateOf
+shift-any h v m v' m' j p e = e
+
+-- a command that writes no line, and one that writes one
+pub quiet-acts : {c k : Command} {h g : Held} {v m v' m' : List ℕ} (l : List ℕ) → c ≡ k → Acts k h v m [] g v' m' → Acts c h v m (take 0 l) g v' m' × Wrote l (take 0 l) l 0
+quiet-acts {c} {k} {h} {g} {v} {m} {v'} {m'} l e r = (subst (λ (x : Command). Acts x h v m [] g v' m') (sym e) r, wrote-none l)
+
+pub told-acts : {c k : Command} {h : Held} {v m v' m' : List ℕ} {n : ℕ} (l l' : List ℕ) → c ≡ k → Acts k h v m (take n l') h v' m' × Wrote l (take n l') l' n →
+    Acts c h v m (take n l') h v' m' × Wrote l (take n l') l' n
+told-acts {c} {k} {h} {v} {m} {v'} {m'} {n} l l' e r = (subst (λ (x : Command). Acts x h v m (take n l') h v' m') (sym e) (r .0), r .1)

@@ -1,0 +1,2 @@
+-- A command performed by its own function: what each needs.
+pub mod DispatchLaws

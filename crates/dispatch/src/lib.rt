@@ -1,0 +1,80 @@
+// A command that is not refused, performed by the function that is its own.
+// Entry: dispatch.
+ghost use mathlib.Core.Path.{_≡_};
+ghost use lib.ListN.{length, take};
+ghost use Rattle.lines.specs.Lines.{lineLength, Wrote};
+ghost use Rattle.state.specs.Refusals.{refusalOf};
+ghost use Rattle.act.specs.Acts.{stateOf, Kept, Acts};
+use act::Held;
+use act::blocks;
+use act::plans;
+use act::symbols;
+use commands::Command;
+
+// The plan after a command, and the length of its line; 0 where it writes none.
+pub struct Done {
+    pub held: Held,
+    pub count: usize,
+}
+
+pub fn dispatch(
+    held: Held,
+    block: &mut [u8],
+    marks: &mut [u8],
+    line: &mut [u8],
+    command: Command,
+) -> Done
+    requires { ⌜ Kept held (now block) (now marks) × (length (now line) ≡ lineLength) × (refusalOf (stateOf held (now block) (now marks)) command ≡ 0) ⌝ }
+    ensures { λ r. ⌜ Acts command held (now (block .entry)) (now (marks .entry)) (take (r .count) (now (line .exit))) (r .held) (now (block .exit)) (now (marks .exit)) × Wrote (now (line .entry)) (take (r .count) (now (line .exit))) (now (line .exit)) (r .count) ⌝ }
+{
+    match command {
+        Command::NewPlan { n, t } => Done {
+            held: plans::new_plan(n, t, block, marks),
+            count: 0,
+        },
+        Command::SetShift { j, p } => Done {
+            held: plans::set_shift(held, j, p),
+            count: 0,
+        },
+        Command::SetSymbol { c, v } => {
+            symbols::set_symbol(held, block, marks, c, v);
+            Done { held, count: 0 }
+        }
+        Command::MarkOne { c } => {
+            symbols::mark_one(held, marks, c);
+            Done { held, count: 0 }
+        }
+        Command::MarkRun { c, m } => {
+            symbols::mark_run(held, marks, c, m);
+            Done { held, count: 0 }
+        }
+        Command::Recover => Done {
+            held,
+            count: blocks::recover_state(held, block, marks, line),
+        },
+        Command::Seal => Done {
+            held,
+            count: blocks::seal_state(held, block, marks, line),
+        },
+        Command::Show { c } => Done {
+            held,
+            count: symbols::show(held, block, line, c),
+        },
+        Command::Figures => Done {
+            held,
+            count: blocks::tell_figures(held, line),
+        },
+        Command::Straight { n, t } => Done {
+            held: plans::straight(n, t, block, marks),
+            count: 0,
+        },
+        Command::Powers { n, t, q } => Done {
+            held: plans::powers(n, t, q, block, marks),
+            count: 0,
+        },
+        Command::Ruler { n } => Done {
+            held: plans::ruler(n, block, marks),
+            count: 0,
+        },
+    }
+}

@@ -1,0 +1,3 @@
+-- A line on the sheet.
+pub mod Putting
+pub mod PutLaws

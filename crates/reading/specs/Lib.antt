@@ -1,0 +1,3 @@
+-- A job read in parts: the cursor.
+pub mod Cursors
+pub mod CursorLaws

@@ -1,0 +1,19 @@
+-- The line `refused`.
+use mathlib.Core.Path.{refl}
+use native.Mathlib.Omega.{arith}
+use Rattle.turns.specs.TurnLaws.{says-refused}
+use borrow.Author.Needs.{needs}
+use Rattle.turns.proofs.stop.Statement.{statement}
+use Rattle.turns.proofs.stop.Tie as tie
+
+refused-line-requires : tie.Need-refused-line-requires
+refused-line-requires c κs = omega (arith, c .before .before .pre)
+
+same-length : tie.Need-same-length
+same-length c = search needs
+
+returns : tie.Need-returns
+returns c = (refl, says-refused _ _ _ (c .before .before .refused-line .ensures))
+
+pub stop-spec : {M : Type 1} → statement M
+stop-spec = tie.close (tie.spec refused-line-requires same-length returns)
