@@ -36,7 +36,7 @@
  * lengths and its marks, and nothing outside what it is lent is read or written.
  *
  * No function keeps a state, allocates memory or waits: calls on different buffers may run at the same time in
- * different threads. As compiled now, fumizhaki_recover takes about 83 KB of stack and fumizhaki_encode about 52 KB.
+ * different threads. As compiled now, fumizhaki_recover takes about 34 KB of stack and fumizhaki_encode about 43 KB.
  */
 #ifndef FUMIZHAKI_H
 #define FUMIZHAKI_H
