@@ -13,8 +13,8 @@ use reading::Cursor;
 use reading::begin;
 use reading::carry;
 use reading::used;
-use sheet::start;
 use turns::Turn;
+use turns::start;
 
 // Bytes read at once, and bytes of the sheet that may wait to be written.
 const INPUT: usize = 65536;

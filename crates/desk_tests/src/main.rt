@@ -4,14 +4,13 @@ ghost use Prim.Native.Nat.{ℕ, _%_, _<_, _≤_};
 ghost use mathlib.Core.Path.{_≡_};
 ghost use lib.ListN.{getD};
 use act::BLOCK;
-use act::Held;
 use act::MARKS;
 use job::perform;
 use libc::STDIN_FILENO;
 use libc::STDOUT_FILENO;
 use lines::LINE;
-use plan::Plan;
 use turns::Turn;
+use turns::start;
 
 // A longer line is given as its length and a checksum.
 const LONGEST: usize = 120;
@@ -23,17 +22,6 @@ const JOB: usize = 256;
 
 // An odd number of digits, more than a job holds.
 const MALFORMED: usize = 18446744073709551615;
-
-fn no_plan() -> Held {
-    Held {
-        planned: false,
-        plan: Plan {
-            n: 0,
-            t: 0,
-            shifts: [0; 32],
-        },
-    }
-}
 
 // A byte; past the end 0.
 fn byte(line: &[u8], i: usize) -> u8 {
@@ -115,7 +103,7 @@ fn fewer(left: usize, bytes: usize) -> usize
 
 // Performs the job. No job has more commands than bytes.
 fn sheet(job: &[u8], block: &mut [u8], marks: &mut [u8], line: &mut [u8]) {
-    let mut held = no_plan();
+    let mut held = start();
     let mut at = 0;
     let mut left = JOB + 1;
     while 0 < left {

@@ -24,7 +24,7 @@ use Rattle.act.specs.Acts.{blockLength, marksLength, stateOf, Kept, Acts}
 use Rattle.act.specs.declared.Held.{Held}
 use Rattle.turns.specs.Sheets.{start}
 use Rattle.standing.specs.StandingLaws.{kept-pass}
-use Rattle.turns.specs.Turns.{Same}
+use Rattle.turns.specs.Turns.{Same, unplanned}
 use Rattle.job.specs.Performs.{Performs}
 use Rattle.turns.specs.declared.Turn.{Turn}
 use Rattle.turns.specs.declared.Turn.the-variants.{On}
@@ -232,10 +232,6 @@ module _ {job lent : List ℕ} {h : Held} {v m l : List ℕ} {at to : ℕ} {shee
   }
 
 -- ---- the start
-
--- before the first plan, over buffers of any content
-abbrev pub unplanned : Held
-unplanned = record { planned = false; plan = record { n = 0; t = 0; shifts = replicate 32 0 } }
 
 pub held-start : (v m : List ℕ) → stateOf unplanned v m ≡ start
 unfolding stateOf start markBytes layoutOf layout

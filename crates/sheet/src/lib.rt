@@ -1,5 +1,5 @@
 // A whole job over one slice: command after command is performed, line after line is put on a lent sheet.
-// Entries: run; start, for programs that read a job in parts.
+// Entry: run.
 ghost use mathlib.Core.Path.{_≡_};
 ghost use mathlib.Core.List.{List};
 ghost use Prim.Native.Nat.{ℕ, _<_};
@@ -8,34 +8,19 @@ ghost use Rattle.lines.specs.Lines.{lineLength};
 ghost use Rattle.act.specs.Acts.{Kept, stateOf};
 ghost use Rattle.turns.specs.Sheets as sheets;
 ghost use Rattle.sheet.specs.Running.{Runs, Running};
-ghost use Rattle.sheet.specs.RunningLaws.{unplanned};
 use act::BLOCK;
 use act::Held;
 use act::MARKS;
 use job::perform;
 use lines::LINE;
-use plan::Plan;
 use putting::Reached;
 use putting::put_turn;
+use turns::start;
 
 // Whole: the sheet's length. Full: the lent sheet is too short; the length of the lines that fitted.
 pub enum Ran {
     Whole(usize),
     Full(usize),
-}
-
-// A job starts with no plan.
-pub fn start() -> Held
-    ensures { λ r. ⌜ r ≡ unplanned ⌝ }
-{
-    Held {
-        planned: false,
-        plan: Plan {
-            n: 0,
-            t: 0,
-            shifts: [0; 32],
-        },
-    }
 }
 
 pub fn run(job: &[u8], sheet: &mut [u8]) -> Ran

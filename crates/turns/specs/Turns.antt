@@ -5,7 +5,7 @@ use mathlib.Core.Logic.{_≢_}
 use mathlib.Core.Bool.{Bool, true, false}
 use mathlib.Core.List.{List, []}
 use Prim.Native.Nat.{ℕ}
-use lib.ListN.{getD}
+use lib.ListN.{getD, replicate}
 use Rattle.commands.specs.Commands.{sizeOf, parsed, unknownNumber, shortNumber}
 use Rattle.commands.specs.declared.Command.{Command}
 use Rattle.commands.specs.declared.Parsed.the-variants.{Whole, Unknown, Short, Nothing}
@@ -16,6 +16,10 @@ use Rattle.act.specs.declared.Held.{Held}
 use Rattle.turns.specs.Sheets.{refusedLine}
 use Rattle.turns.specs.declared.Turn.{Turn}
 use Rattle.turns.specs.declared.Turn.the-variants.{Wait, End, Stop, On}
+
+-- before the first plan, over buffers of any content
+abbrev pub unplanned : Held
+unplanned = record { planned = false; plan = record { n = 0; t = 0; shifts = replicate 32 0 } }
 
 -- the job stops: the line `refused` was written, with this number and offset
 pub record Stops (number offset : ℕ) (l : List ℕ) (turn : Turn) (l' : List ℕ) : Type 0 where

@@ -1,5 +1,5 @@
 // One turn of a job: what comes of it, and the turns that perform no command.
-// Entries: at_end, unknown, cut_off, stop.
+// Entries: start, at_end, unknown, cut_off, stop.
 ghost use mathlib.Core.Path.{_≡_};
 ghost use mathlib.Core.Bool.{Bool};
 ghost use mathlib.Core.List.{List};
@@ -8,11 +8,12 @@ ghost use lib.ListN.{length};
 ghost use Rattle.lines.specs.Lines.{lineLength};
 ghost use Rattle.commands.specs.Commands.{parsed};
 ghost use Rattle.commands.specs.declared.Parsed.the-variants as parsedAs;
-ghost use Rattle.turns.specs.Turns.{Stops, Turns};
+ghost use Rattle.turns.specs.Turns.{Stops, Turns, unplanned};
 use act::Held;
 use calls::Refusal;
 use lines::end_line;
 use lines::refused_line;
+use plan::Plan;
 
 // What comes of the bytes at hand. On: the bytes used and the length of the line. End, Stop: the length of the last line.
 pub enum Turn {
@@ -27,6 +28,20 @@ pub enum Turn {
 pub struct Step {
     pub turn: Turn,
     pub held: Held,
+}
+
+// A job starts with no plan.
+pub fn start() -> Held
+    ensures { λ r. ⌜ r ≡ unplanned ⌝ }
+{
+    Held {
+        planned: false,
+        plan: Plan {
+            n: 0,
+            t: 0,
+            shifts: [0; 32],
+        },
+    }
 }
 
 // No bytes are at hand.

@@ -12,8 +12,8 @@ Inv-loop job block₀ marks₀ line₀ held₀ at₀ left₀ block marks line he
 abbrev μ-loop : tie.MeasureT-loop
 μ-loop job block₀ marks₀ line₀ held₀ at₀ left₀ block marks line held at left = left
 
-no-plan-requires : tie.Need-no-plan-requires Inv-loop μ-loop
-no-plan-requires c κs = tt
+start-requires : tie.Need-start-requires Inv-loop μ-loop
+start-requires c κs = tt
 
 add-left : tie.Need-add-left Inv-loop μ-loop
 add-left c = search needs
@@ -72,7 +72,7 @@ sheet-spec =
     (tie.spec
     Inv-loop
     μ-loop
-    no-plan-requires
+    start-requires
     add-left
     loop-holds
     sub-perform
