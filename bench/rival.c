@@ -1,5 +1,6 @@
 /* The rival: the algorithm of crates/recovery and crates/sealing, written by hand in C.
-   Tables for each of the 2t rows (top rows first): the sum of the unmarked symbols, the number of erasures left, the exclusive or of their codes.
+   Tables for each of the 2t rows (top rows first): the sum of the block's symbols, the number of erasures left, the exclusive or of their codes.
+   Marked symbols stay in the sums: settling a place finds what must be added to it.
    The code of a place is section * 2048 + offset, so no division is needed to take it apart. */
 #include "rival.h"
 #include <stdbool.h>
@@ -68,9 +69,8 @@ static inline void note(tables *restrict rows, size_t r, uint16_t code) {
     rows->code[r] ^= code;
 }
 
-/* Takes the marked places from place `first` on out of the sums (if there is a block) and notes them on their rows. Gives their number. */
-static inline size_t note_marks(const fumizhaki_plan *plan, const uint8_t *restrict block, const uint8_t *restrict marks, size_t first,
-                                tables *restrict rows) {
+/* Notes the marked places from place `first` on on their rows. Gives their number. */
+static inline size_t note_marks(const fumizhaki_plan *plan, const uint8_t *restrict marks, size_t first, tables *restrict rows) {
     size_t t = plan->t, length = (plan->n * t + 7) / 8, found = 0;
     size_t j = 0, from = 0, end = t, p = plan->shifts[0];
     clear_counts(rows, t);
@@ -86,10 +86,6 @@ static inline size_t note_marks(const fumizhaki_plan *plan, const uint8_t *restr
             }
             size_t k = c - from, b = bottom(t, p, k);
             uint16_t code = (uint16_t)(j << 11 | k);
-            if (block) {
-                rows->sum[k] ^= block[c];
-                rows->sum[b] ^= block[c];
-            }
             note(rows, k, code);
             note(rows, b, code);
             found++;
@@ -148,7 +144,7 @@ static bool all_zero(const uint8_t *bytes, size_t length) {
 }
 
 static void fill(uint8_t *restrict block, const uint16_t *restrict place, const uint8_t *restrict value, size_t count) {
-    for (size_t i = 0; i < count; i++) block[place[i]] = value[i];
+    for (size_t i = 0; i < count; i++) block[place[i]] ^= value[i];
 }
 
 /* The root of row r, by halving the way up. Parents never rise, so a root is the lowest row of its component. */
@@ -205,7 +201,7 @@ static size_t crossed(size_t rows, const uint16_t *restrict parent, const uint8_
 /* The cycle whose lowest place is c: peel the erasures from c on; each row then has two of the cycle's places, and its code gives one for the other. */
 static size_t cycle(const fumizhaki_plan *plan, const uint8_t *marks, size_t c, tables *rows, uint16_t *place, uint8_t *value, uint16_t *witness) {
     size_t t = plan->t, count = 0;
-    note_marks(plan, NULL, marks, c, rows);
+    note_marks(plan, marks, c, rows);
     peel(plan, rows, place, value);
     memset(witness, 0, 2 * t * sizeof witness[0]);
     uint16_t first = (uint16_t)(c / t << 11 | c % t), code = first;
@@ -232,7 +228,7 @@ uint8_t rival_recover(const fumizhaki_plan *plan, uint8_t *block, size_t block_l
     if (block_length != places || marks_length != (places + 7) / 8 || witness_length != 2 * t) return LENGTH;
     if (places % 8 != 0 && marks[places / 8] >> (places % 8) != 0) return SPARE;
     sum_rows(plan, block, rows.sum);
-    size_t erased = note_marks(plan, block, marks, 0, &rows);
+    size_t erased = note_marks(plan, marks, 0, &rows);
     size_t settled = peel(plan, &rows, place, value);
     if (settled == erased && all_zero(rows.sum, 2 * t)) {
         fill(block, place, value, settled);
