@@ -9,6 +9,7 @@ ghost use Rattle.tables.specs.Spots.{Reached};
 ghost use Rattle.tables.specs.Stretches.{Stretch};
 ghost use Rattle.tables.specs.Counting.{Due, Notes, Noted, Ready, fromPlace};
 ghost use Rattle.tables.specs.Scan.{Lent, Scanned};
+ghost use Rattle.tables.specs.Words.{Word};
 use crate::packed::pack;
 use crate::rows::bottom;
 use crate::rows::put_in;
@@ -127,6 +128,66 @@ pub fn note_places(
     here
 }
 
+// Notes the places of the word of marks from byte i on, which lies in one section: no place is asked for its section.
+fn note_inside(
+    n: usize,
+    t: usize,
+    shifts: &[u16],
+    marks: &[u8],
+    first: u16,
+    i: usize,
+    word: u64,
+    at: Section,
+    left: &mut [u8],
+    code: &mut [u16],
+)
+    requires { ⌜ Lent n t (now shifts) (now marks) × (i < length (now marks)) × (first < 8 * i + 64) × Word (now marks) first (8 * i) word ⌝ }
+    requires { ⌜ Reached n t (now shifts) (8 * i) (at .index) (at .begin) (at .end) (at .shift) × (8 * i + 64 ≤ at .end) ⌝ }
+    requires { ⌜ Scanned n t (now shifts) (now marks) first (8 * i) (now left) (now code) ⌝ }
+    ensures { λ _. ⌜ Scanned n t (now (shifts .entry)) (now (marks .entry)) first (8 * i + 64) (now (left .exit)) (now (code .exit)) ⌝ }
+{
+    let mut rest = word;
+    while rest != 0 {
+        let c = 8 * i + u64::trailing_zeros(rest) as usize;
+        let spot = Spot {
+            place: Place(c as u16),
+            section: at.index,
+            offset: c - at.begin,
+        };
+        note(t, at.shift, spot, &mut left[..], &mut code[..]);
+        rest = rest & (rest - 1);
+    }
+}
+
+// The same where a section may end in the word; gives the section that it comes to.
+fn note_across(
+    n: usize,
+    t: usize,
+    shifts: &[u16],
+    marks: &[u8],
+    first: u16,
+    i: usize,
+    word: u64,
+    at: Section,
+    left: &mut [u8],
+    code: &mut [u16],
+) -> Section
+    requires { ⌜ Lent n t (now shifts) (now marks) × (i < length (now marks)) × (first < 8 * i + 64) × Word (now marks) first (8 * i) word ⌝ }
+    requires { ⌜ Reached n t (now shifts) (8 * i) (at .index) (at .begin) (at .end) (at .shift) ⌝ }
+    requires { ⌜ Scanned n t (now shifts) (now marks) first (8 * i) (now left) (now code) ⌝ }
+    ensures { λ _. ⌜ Scanned n t (now (shifts .entry)) (now (marks .entry)) first (8 * i + 64) (now (left .exit)) (now (code .exit)) ⌝ }
+    ensures { λ r. ⌜ Reached n t (now (shifts .entry)) (8 * i + 64) (r .index) (r .begin) (r .end) (r .shift) ⌝ }
+{
+    let mut here = at;
+    let mut rest = word;
+    while rest != 0 {
+        let c = 8 * i + u64::trailing_zeros(rest) as usize;
+        here = note_next(n, t, shifts, c, here, &mut left[..], &mut code[..]);
+        rest = rest & (rest - 1);
+    }
+    here
+}
+
 // Notes the marked places from `first` on of the word of marks from byte i on, lowest first, and gives the section that it comes to.
 fn note_word(
     n: usize,
@@ -145,26 +206,38 @@ fn note_word(
     ensures { λ _. ⌜ Scanned n t (now (shifts .entry)) (now (marks .entry)) first (8 * i + 64) (now (left .exit)) (now (code .exit)) ⌝ }
     ensures { λ r. ⌜ Reached n t (now (shifts .entry)) (8 * i + 64) (r .index) (r .begin) (r .end) (r .shift) ⌝ }
 {
-    let mut here = at;
-    let mut rest = word_from(marks, i, Place(first));
-    if rest == u64::MAX {
-        return note_places(
+    let c = 8 * i;
+    let word = word_from(marks, i, Place(first));
+    if word == u64::MAX {
+        return note_places(n, t, shifts, c, c + 64, at, &mut left[..], &mut code[..]);
+    }
+    if at.end < c + 64 {
+        return note_across(
             n,
             t,
             shifts,
-            8 * i,
-            8 * i + 64,
+            marks,
+            first,
+            i,
+            word,
             at,
             &mut left[..],
             &mut code[..],
         );
     }
-    while rest != 0 {
-        let c = 8 * i + u64::trailing_zeros(rest) as usize;
-        here = note_next(n, t, shifts, c, here, &mut left[..], &mut code[..]);
-        rest = rest & (rest - 1);
-    }
-    here
+    note_inside(
+        n,
+        t,
+        shifts,
+        marks,
+        first,
+        i,
+        word,
+        at,
+        &mut left[..],
+        &mut code[..],
+    );
+    at
 }
 
 // Notes all marked places from `first` on, in tables of zeros.

@@ -1,101 +1,76 @@
--- `tables::marks::note_word` meets its contract. The invariant: the bits of `rest` are the places of the word that are still to be noted.
-use mathlib.Core.Path.{sym, _∙_}
-use Prim.Native.Nat.{_*_}
+-- `tables::marks::note_word` meets its contract: a full word is noted in stretches, another one place by place.
 use native.Mathlib.Omega.{arith}
 use borrow.Author.Needs.{needs}
-use Rattle.tables.specs.Lowest.{dropped-less}
-use Rattle.tables.specs.Counting.{seen-long}
-use Rattle.tables.specs.Scan.{Noting, noting-start, noting-bit, noting-reached, noting-due, noting-more, noting-done, noting-section}
+use Rattle.tables.specs.Spots.{reached-on}
 use Rattle.tables.specs.Stretches.{ones-due, ones-noted}
 use Rattle.tables.proofs.marks.note_word.Statement.{statement}
 use Rattle.tables.proofs.marks.note_word.Tie as tie
 
-abbrev Inv-loop : tie.InvT-loop
-Inv-loop n t shifts marks first i left₀ code₀ here₀ rest₀ left code here rest =
-    Noting n t shifts marks first (8 * i) rest (here .index) (here .begin) (here .end) (here .shift) left code
+mul-c : tie.Need-mul-c
+mul-c c = search needs
 
-abbrev μ-loop : tie.MeasureT-loop
-μ-loop n t shifts marks first i left₀ code₀ here₀ rest₀ left code here rest = rest
+word-from-requires : tie.Need-word-from-requires
+word-from-requires c κs = search needs
 
-word-from-requires : tie.Need-word-from-requires Inv-loop μ-loop
-word-from-requires c κs = omega (arith, c .before .before .before .before .pre .0, c .before .before .before .before .pre .0 .0 .marks-long, c .before .before .before .before .pre .0 .0 .sized .places-max)
+add-note-places : tie.Need-add-note-places
+add-note-places c = search needs
 
-mul-note-places : tie.Need-mul-note-places Inv-loop μ-loop
-mul-note-places c = omega (arith, c .before .before .before .before .before .before .pre .0, c .before .before .before .before .before .before .pre .0 .0 .marks-long, c .before .before .before .before .before .before .pre .0 .0 .sized .places-max)
-
-mul-note-places-2 : tie.Need-mul-note-places-2 Inv-loop μ-loop
-mul-note-places-2 c = omega (arith, c .before .before .before .before .before .before .pre .0, c .before .before .before .before .before .before .pre .0 .0 .marks-long, c .before .before .before .before .before .before .pre .0 .0 .sized .places-max)
-
-add-note-places : tie.Need-add-note-places Inv-loop μ-loop
-add-note-places c = omega (arith, c .before .before .before .before .before .before .pre .0, c .before .before .before .before .before .before .pre .0 .0 .marks-long, c .before .before .before .before .before .before .pre .0 .0 .sized .places-max)
-
-note-places-requires : tie.Need-note-places-requires Inv-loop μ-loop
+note-places-requires : tie.Need-note-places-requires
 note-places-requires c κs = ((ones-due (c .before .before .before .before .before .before .before .before .pre .0 .0) (c .before .before .before .before .before .before .before .before .pre .1 .1) (c .before .before .before .word-from .ensures) (c .before .before .if1 .taken), omega arith), c .before .before .before .before .before .before .before .before .pre .1 .0)
 
-same-length : tie.Need-same-length Inv-loop μ-loop
+same-length : tie.Need-same-length
 same-length c = search needs
 
-same-length-2 : tie.Need-same-length-2 Inv-loop μ-loop
+same-length-2 : tie.Need-same-length-2
 same-length-2 c = search needs
 
-returns : tie.Need-returns Inv-loop μ-loop
+returns : tie.Need-returns
 returns c = (ones-noted (c .before .before .before .before .before .before .before .before .before .before .before .before .before .pre .0 .0) (c .before .before .before .before .before .before .before .before .before .before .before .before .before .pre .1 .1) (c .before .before .before .before .before .before .before .before .word-from .ensures) (c .before .before .before .before .before .before .before .if1 .taken) (c .before .before .before .before .note-places .ensures .0), c .before .before .before .before .note-places .ensures .1)
 
-loop-holds : tie.Need-loop-holds Inv-loop μ-loop
-loop-holds c = noting-start (c .before .before .before .before .before .before .pre .1 .1) (c .before .before .before .before .before .before .pre .1 .0) (omega (arith, c .before .before .before .before .before .before .pre .0)) (c .before .word-from .ensures)
+add-if2 : tie.Need-add-if2
+add-if2 c = search needs
 
-mul-c : tie.Need-mul-c Inv-loop μ-loop
-mul-c c = omega (arith, c .before .before .before .before .before .before .before .before .pre .0, c .before .before .before .before .before .before .before .before .pre .0 .0 .marks-long, c .before .before .before .before .before .before .before .before .pre .0 .0 .sized .places-max)
+note-across-requires : tie.Need-note-across-requires
+note-across-requires c κs = search needs
 
-cast-c : tie.Need-cast-c Inv-loop μ-loop
-cast-c c = omega (arith, noting-bit (c .before .loop .inv) (c .loop-test .taken))
+same-length-3 : tie.Need-same-length-3
+same-length-3 c = search needs
 
-add-c : tie.Need-add-c Inv-loop μ-loop
-add-c c = omega (arith, c .before .before .before .before .before .before .before .before .pre .0, c .before .before .before .before .before .before .before .before .pre .0 .0 .marks-long, c .before .before .before .before .before .before .before .before .pre .0 .0 .sized .places-max, noting-bit (c .before .loop .inv) (c .loop-test .taken))
+same-length-4 : tie.Need-same-length-4
+same-length-4 c = search needs
 
-note-next-requires : tie.Need-note-next-requires Inv-loop μ-loop
-note-next-requires c κs = (noting-due (c .before .before .before .loop .inv) (c .before .before .loop-test .taken) (c .before .before .before .before .before .before .before .before .before .before .pre .0 .0), noting-reached (c .before .before .before .loop .inv) (c .before .before .loop-test .taken))
+returns-2 : tie.Need-returns-2
+returns-2 c = search needs
 
-sub-rest : tie.Need-sub-rest Inv-loop μ-loop
-sub-rest c = omega (arith, dropped-less 64 (c .before .before .before .before .before .before .before .before .loop .rest) (c .before .before .before .before .before .before .before .before .loop .inv .word .small) (c .before .before .before .before .before .before .before .loop-test .taken))
+note-inside-requires : tie.Need-note-inside-requires
+note-inside-requires c κs = ((c .before .before .before .before .before .before .before .before .before .before .pre .0 .0, c .before .before .before .before .before .before .before .before .before .before .pre .0 .1, c .before .before .before .before .before .before .before .before .before .before .pre .0 .2, c .before .before .before .before .before .word-from .ensures), ((c .before .before .before .before .before .before .before .before .before .before .pre .1 .0, omega (arith, c .before .before .if2 .left)), c .before .before .before .before .before .before .before .before .before .before .pre .1 .1))
 
-loop-less : tie.Need-loop-less Inv-loop μ-loop
-loop-less c = dropped-less 64 (c .before .before .before .before .before .before .before .before .loop .rest) (c .before .before .before .before .before .before .before .before .loop .inv .word .small) (c .before .before .before .before .before .before .before .loop-test .taken)
+same-length-5 : tie.Need-same-length-5
+same-length-5 c = search needs
 
-loop-again : tie.Need-loop-again Inv-loop μ-loop
-loop-again c = noting-more (c .before .before .before .before .before .before .before .before .loop .inv) (c .before .before .before .before .before .before .before .loop-test .taken) (c .before .before .before .before .before .before .before .before .before .before .before .before .before .before .before .pre .0 .0) (c .before .before .before .before .note-next .ensures .0) (c .before .before .before .before .note-next .ensures .1)
+same-length-6 : tie.Need-same-length-6
+same-length-6 c = search needs
 
-same-length-3 : tie.Need-same-length-3 Inv-loop μ-loop
-same-length-3 c = seen-long (c .before .loop .inv .seen .seen) .0 ∙ sym (seen-long (c .before .before .before .before .before .before .before .before .pre .1 .1 .seen) .0)
-
-same-length-4 : tie.Need-same-length-4 Inv-loop μ-loop
-same-length-4 c = seen-long (c .before .loop .inv .seen .seen) .1 ∙ sym (seen-long (c .before .before .before .before .before .before .before .before .pre .1 .1 .seen) .1)
-
-returns-2 : tie.Need-returns-2 Inv-loop μ-loop
-returns-2 c = (noting-done (c .before .loop .inv) (c .loop-test .left), noting-section (c .before .loop .inv))
+returns-3 : tie.Need-returns-3
+returns-3 c = (c .before .before .before .before .note-inside .ensures, reached-on _ (omega arith) (c .before .before .before .before .before .before .before .before .before .before .before .before .before .before .before .pre .1 .0))
 
 pub note-word-spec : {M : Type 1} → statement M
 note-word-spec =
     tie.close
     (tie.spec
-    Inv-loop
-    μ-loop
+    mul-c
     word-from-requires
-    mul-note-places
-    mul-note-places-2
     add-note-places
     note-places-requires
     same-length
     same-length-2
     returns
-    loop-holds
-    mul-c
-    cast-c
-    add-c
-    note-next-requires
-    sub-rest
-    loop-less
-    loop-again
+    add-if2
+    note-across-requires
     same-length-3
     same-length-4
-    returns-2)
+    returns-2
+    note-inside-requires
+    same-length-5
+    same-length-6
+    returns-3)
