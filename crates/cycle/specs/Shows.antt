@@ -23,6 +23,7 @@ use Rattle.code.specs.Laws.Paths.{∈-above, erased-above, path}
 use Rattle.code.specs.Laws.CycleLaws.{cycle-length, forest-no-cycle}
 use Rattle.code.specs.Laws.MarksLaws.{erasures-erased}
 use Rattle.tables.specs.Picture.{Sized, codeOf, onRow, Counted, Picture, Stuck}
+use Rattle.tables.specs.PictureLaws.{remaining}
 use Rattle.tables.specs.Sizes.{sized-valid, sized-∈}
 use Rattle.tables.specs.Counting.{fromPlace, in-from, from-in}
 use Rattle.tables.specs.StuckLaws.{forest-sub, twos, met-two, cycle-survives, cycle-into, top-next, bottom-next, last-next}
@@ -106,17 +107,17 @@ module _ (L : Layout) (ok : Valid L) {E : List ℕ} {c : ℕ} (er : Erased L E) 
 
     row-top : (i : ℕ) → i < cy .half → getD code (top L (at l (2 * i))) 0 ≡ codeOf (L .t) (at l (2 * i)) ⊕ codeOf (L .t) (at l (2 * i + 1))
     row-top i h =
-        pic .counted .codes (top L (at l (2 * i))) (meets-row L ok (at l (2 * i)) (inl refl))
+        pic .counted .codes (top L (at l (2 * i))) (meets-row L ok (at l (2 * i)) (inl refl)) (omega (arith, two-on (at l (2 * i)) (cy .inside (2 * i) (omega (arith, cy .even))) (inl refl)))
         ∙ top-next (pic .counted .erased .rising) cy i h (two-on (at l (2 * i)) (cy .inside (2 * i) (omega (arith, cy .even))) (inl refl)) (codeOf (L .t))
 
     row-bottom : (i : ℕ) → i + 1 < cy .half → getD code (bottom L (at l (2 * i + 1))) 0 ≡ codeOf (L .t) (at l (2 * i + 1)) ⊕ codeOf (L .t) (at l (2 * i + 2))
     row-bottom i h =
-        pic .counted .codes (bottom L (at l (2 * i + 1))) (meets-row L ok (at l (2 * i + 1)) (inr refl))
+        pic .counted .codes (bottom L (at l (2 * i + 1))) (meets-row L ok (at l (2 * i + 1)) (inr refl)) (omega (arith, two-on (at l (2 * i + 1)) (cy .inside (2 * i + 1) (omega (arith, cy .even))) (inr refl)))
         ∙ bottom-next (pic .counted .erased .rising) cy i h (two-on (at l (2 * i + 1)) (cy .inside (2 * i + 1) (omega (arith, cy .even))) (inr refl)) (codeOf (L .t))
 
     row-last : getD code (bottom L (at l (length l - 1))) 0 ≡ codeOf (L .t) (at l (length l - 1)) ⊕ codeOf (L .t) (at l 0)
     row-last =
-        pic .counted .codes (bottom L (at l (length l - 1))) (meets-row L ok (at l (length l - 1)) (inr refl))
+        pic .counted .codes (bottom L (at l (length l - 1))) (meets-row L ok (at l (length l - 1)) (inr refl)) (omega (arith, two-on (at l (length l - 1)) (cy .inside (length l - 1) (omega (arith, cy .even, cy .least))) (inr refl)))
         ∙ last-next (pic .counted .erased .rising) cy (two-on (at l (length l - 1)) (cy .inside (length l - 1) (omega (arith, cy .even, cy .least))) (inr refl)) (codeOf (L .t))
 
 module _ {n t : ℕ} {shifts marks : List ℕ} {c : ℕ} (p : Closing n t shifts marks c) where
@@ -131,7 +132,7 @@ module _ {n t : ℕ} {shifts marks : List ℕ} {c : ℕ} (p : Closing n t shifts
           sum-long = ap length e ∙ length-replicate (2 * t) 0;
           byte = λ d. omega arith;
           sums = λ r h. ap (λ l. getD l r 0) e ∙ getD-replicate (2 * t) r 0 0 h ∙ sym (syndrome-zero (layout n t shifts) r);
-          counted = counted;
+          counted = remaining counted;
         };
       }
 

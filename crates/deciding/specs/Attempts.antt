@@ -21,10 +21,11 @@ use Rattle.code.specs.Laws.Forest.{Erased, Forest}
 use Rattle.code.specs.Laws.Basics.{places-∈, meets-row, syndrome-ext}
 use Rattle.code.specs.Laws.MarksLaws.{erasures-erased}
 use Rattle.tables.specs.Picture.{Counted, Picture}
+use Rattle.tables.specs.PictureLaws.{remaining}
 use Rattle.tables.specs.Sizes.{sized-valid, ∈-sized}
 use Rattle.tables.specs.Counting.{fromPlace, from-zero}
 use Rattle.tables.specs.Scan.{Lent}
-use Rattle.tables.specs.SumLaws.{Syndromes}
+use Rattle.sums.specs.SumLaws.{Syndromes}
 use Rattle.cycle.specs.Shows.{Room}
 use Rattle.tables.specs.StuckLaws.{onRow-some, length-onRow-le, stuck-none}
 use Rattle.peel.specs.Peels.{Peelable, Peeled, Peels}
@@ -153,7 +154,7 @@ pub begins : {n t : ℕ} {shifts block marks sum left code : List ℕ} → ((c :
 unfolding layout
 begins {n} {t} {shifts} {marks = marks} byte s p = record {
   symbols = byte;
-  picture = record { sum-long = s .long; byte = byte; sums = s .each; counted = rw (from-zero (erasures (layout n t shifts) marks)) at p };
+  picture = record { sum-long = s .long; byte = byte; sums = s .each; counted = remaining (rw (from-zero (erasures (layout n t shifts) marks)) at p) };
 }
 
 module _ {n t : ℕ} {shifts block marks witness sum left code place value left₀ code₀ : List ℕ} (g : Given n t shifts block marks witness)

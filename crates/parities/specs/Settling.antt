@@ -19,9 +19,10 @@ use Rattle.code.specs.Laws.Basics.{places-∈}
 use Rattle.code.specs.Laws.Carrying.{lists-unique, carried-some}
 use Rattle.code.specs.Laws.ParityCount.{parities, messages, erased-parities, forest-parities, parity-lists, parity-or-message, message-lists}
 use Rattle.tables.specs.Picture.{Sized, Counted, Picture}
+use Rattle.tables.specs.PictureLaws.{remaining}
 use Rattle.tables.specs.Sizes.{sized-valid, ∈-sized}
 use Rattle.tables.specs.Spots.{Stands, stands-section, stands-offset}
-use Rattle.tables.specs.SumLaws.{Syndromes}
+use Rattle.sums.specs.SumLaws.{Syndromes}
 use Rattle.tables.specs.Counting.{Seen, All, Due, Notes, seen-skip, seen-all}
 use Rattle.tables.specs.Zeros.{Zeros, zeros, zeros-part}
 use Rattle.tables.specs.StuckLaws.{stuck-none}
@@ -145,7 +146,7 @@ pub record Settled (L : Layout) (v v' : List ℕ) : Type 0 where
 pub parity-picture : {n t : ℕ} {shifts block sum left code : List ℕ} → ((c : ℕ) → getD block c 0 < 256) → Syndromes n t shifts block sum
     → Counted (layout n t shifts) (parities (layout n t shifts)) left code → ParityPicture (layout n t shifts) block sum left code
 unfolding layout
-parity-picture byte s c = record { sum-long = s .long; byte = byte; sums = s .each; counted = c }
+parity-picture byte s c = record { sum-long = s .long; byte = byte; sums = s .each; counted = remaining c }
 
 pub peelable : {n t : ℕ} {shifts : List ℕ} → Sized n t shifts → (v : List ℕ) {sum left code queue place value : List ℕ} →
     ParityPicture (layout n t shifts) v sum left code → Room t queue place value → Peelable n t shifts sum left code queue place value

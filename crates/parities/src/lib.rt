@@ -11,8 +11,8 @@ ghost use Rattle.parities.specs.Settling.{Sealable, Room, Blank, Cut, Se
 use peel::peel;
 use settling::fill::fill;
 use shifts::wide;
+use sums::syndromes;
 use tables::marks::note_places;
-use tables::sums::syndromes;
 use tables::walk::Section;
 
 // Counts the parity places in tables of zeros: of each section those from its run on.

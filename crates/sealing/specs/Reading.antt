@@ -10,7 +10,7 @@ use Rattle.plan.specs.Layout.{layout}
 use Rattle.code.specs.Codewords.{Codeword}
 use Rattle.settling.specs.Fill.{cleanOf, clean-zero, zero-clean}
 use mathlib.Core.Bool.{Bool, true, false, true≢false}
-use Rattle.tables.specs.SumLaws.{Syndromes}
+use Rattle.sums.specs.SumLaws.{Syndromes}
 
 -- the test says whether A holds
 pub record Tells (A : Type 0) (b : Bool) : Type 0 where

@@ -27,7 +27,7 @@ use runs::runs;
 use runs::spread;
 use settling::fill::clean;
 use shifts::wide;
-use tables::sums::syndromes;
+use sums::syndromes;
 
 // What refuses a call; and the runs, where it passes.
 struct Checked {

@@ -3,6 +3,7 @@
 -- touched-two (the tables after), settles-none and settles-more.
 use mathlib.Core.Path.{_≡_, refl, sym, _∙_, ap, subst}
 use mathlib.Core.Logic.{_≢_, _⊎_, ⊎-elim, by-cases}
+use mathlib.Core.Bool.{true≢false}
 use mathlib.Core.List.{List, [], _∷_, List·Memᴰ·eq-of-singleton, Memᴰ·cast}
 use mathlib.Core.List.{List·Memᴰ·head as here}
 use Prim.Native.Nat.{ℕ, _+_, _*_, _/_, _%_, _≤_, _<_}
@@ -11,17 +12,17 @@ use native.Mathlib.Omega.{arith}
 use lib.ListN.{length, getD, set, length-set}
 use lib.Seq.{getD-set-same, getD-set-other}
 use Rattle.math.specs.Members.{_∈_, without}
-use Rattle.math.specs.MembersLaws.{∈-without, without-∈}
+use Rattle.math.specs.MembersLaws.{by-test, ∈-without, without-∈}
 use Rattle.math.specs.Xor.{_⊕_, ⊕-zero, ⊕-self-left}
 use Rattle.math.specs.Sums.{xorOver, only}
-use Rattle.math.specs.SumsLaws.{only-lt, xorOver-lt, xorOver-split}
+use Rattle.math.specs.SumsLaws.{only-true, only-false, only-lt, xorOver-lt, xorOver-split}
 use Rattle.plan.specs.Layout.{Layout, Valid, placeOf}
 use Rattle.code.specs.Places.{places, Meets, meets}
 use Rattle.code.specs.Codewords.{syndrome}
 use Rattle.code.specs.Checks.{update, rowPlaces}
-use Rattle.code.specs.Laws.Basics.{place-split}
+use Rattle.code.specs.Laws.Basics.{place-split, meets-true, true-meets}
 use Rattle.code.specs.Laws.Settle.{update-same, update-other, ∈-rowPlaces, row-sum, distinct-row, other-places, row-forced}
-use Rattle.tables.specs.Picture.{codeOf, onRow, Counted, Settles}
+use Rattle.tables.specs.Picture.{codeOf, onRow, Remaining, Settles}
 use Rattle.tables.specs.PictureLaws.{Touched}
 use Rattle.tables.specs.Codes.{code-section, code-offset}
 use Rattle.tables.specs.StuckLaws.{∈-onRow, onRow-∈}
@@ -51,10 +52,10 @@ xorOver-single : (c : ℕ) (f : ℕ → ℕ) → xorOver (c ∷ []) f ≡ f c
 unfolding xorOver
 xorOver-single c f = ⊕-zero (f c)
 
-single-of : (L : Layout) → Valid L → L .t ≤ 2048 → {E left code : List ℕ} → Counted L E left code
+single-of : (L : Layout) → Valid L → L .t ≤ 2048 → {E left code : List ℕ} → Remaining L E left code
     → {r : ℕ} → r < 2 * L .t → (c : ℕ) → onRow L E r ≡ c ∷ [] → Single L E r (getD code r 0) c
 single-of L ok g {E} {code = code} p {r} h c o =
-    let k : codeOf (L .t) c ≡ getD code r 0 = sym (p .codes r h ∙ ap (λ K. xorOver K (codeOf (L .t))) o ∙ xorOver-single c (codeOf (L .t))) in
+    let k : codeOf (L .t) c ≡ getD code r 0 = sym (p .codes r h (omega (arith, ap length o)) ∙ ap (λ K. xorOver K (codeOf (L .t))) o ∙ xorOver-single c (codeOf (L .t))) in
     let a : getD code r 0 / 2048 ≡ c / L .t = ap (λ x. x / 2048) (sym k) ∙ code-section (L .t) (ok .positive) g c in
     let b : getD code r 0 % 2048 ≡ c % L .t = ap (λ x. x % 2048) (sym k) ∙ code-offset (L .t) (ok .positive) g c in
     let f = onRow-∈ L E r (subst (λ l. c ∈ l) (sym o) (here refl)) in
@@ -69,7 +70,7 @@ single-of L ok g {E} {code = code} p {r} h c o =
       number = rw (a, b) (place-split (L .t) c);
     }
 
-pub single : (L : Layout) → Valid L → L .t ≤ 2048 → {E left code : List ℕ} → Counted L E left code
+pub single : (L : Layout) → Valid L → L .t ≤ 2048 → {E left code : List ℕ} → Remaining L E left code
     → {r : ℕ} → r < 2 * L .t → getD left r 0 ≡ 1 → Single L E r (getD code r 0) (placeOf (L .t) (getD code r 0 / 2048) (getD code r 0 % 2048))
 single L ok g {E} {code = code} p {r} h e =
     let o = one-member (onRow L E r) (sym (p .lefts r h) ∙ e) in
@@ -92,6 +93,20 @@ touched-two L c g {old} a b n la lb ma mb both z q =
       off = λ r k. getD-set-other (set old a 0) b r v 0 (λ e. k (subst (Meets L c) (sym e) mb))
           ∙ getD-set-other old a r 0 0 (λ e. k (subst (Meets L c) (sym e) ma));
     })
+
+-- the codes stored to at b alone, where a and b are the two rows of c
+pub coded-other : (L : Layout) (c k : ℕ) (code code' : List ℕ) (a b : ℕ) → b < length code → Meets L c b
+    → ((s : ℕ) → Meets L c s → (s ≡ a) ⊎ (s ≡ b)) → code' ≡ set code b (getD code b 0 ⊕ k)
+    → (r : ℕ) → r ≢ a → getD code' r 0 ≡ getD code r 0 ⊕ only (meets L c r) k
+coded-other L c k code code' a b lb mb both q r n =
+    let v = getD code b 0 ⊕ k in
+    ap (λ l. getD l r 0) q
+    ∙ by-test (meets L c r)
+    (λ e. ⊎-elim
+    (λ i. absurd (n i))
+    (λ i. rw (only-true k e) (ap (λ z. getD (set code b v) z 0) i ∙ getD-set-same code b v 0 lb ∙ ap (λ z. getD code z 0 ⊕ k) (sym i)))
+    (both r (true-meets L c r e)))
+    (λ e. rw (only-false k e) (getD-set-other code b r v 0 (λ i. true≢false (sym (meets-true L c (subst (Meets L c) (sym i) mb)) ∙ e)) ∙ sym (⊕-zero (getD code r 0))))
 
 -- T1: the sum of a row with one erasure left is what every codeword that agrees adds there
 pub row-forces : (L : Layout) {E : List ℕ} (u w : ℕ → ℕ) {r k c : ℕ} → Single L E r k c → syndrome L w r ≡ 0

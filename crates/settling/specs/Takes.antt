@@ -10,20 +10,22 @@ use lib.Arith.{digits-lt}
 use lib.ListN.{length, getD, set, length-set}
 use lib.Seq.{getD-set-same, getD-set-other}
 use Rattle.math.specs.Members.{_∈_, without}
-use Rattle.math.specs.MembersLaws.{upTo-∈}
+use Rattle.math.specs.MembersLaws.{upTo-∈, rising-distinct}
 use Rattle.math.specs.Xor.{_⊕_, ⊕-self, ⊕-lt}
 use Rattle.plan.specs.Layout.{Layout, layout, placeOf, topRow, bottomRow, top, bottom}
-use Rattle.code.specs.Places.{places, Meets}
+use Rattle.math.specs.Sums.{only}
+use Rattle.math.specs.SumsLaws.{only-true}
+use Rattle.code.specs.Places.{places, Meets, meets}
 use Rattle.code.specs.Codewords.{syndrome}
 use Rattle.code.specs.Checks.{update}
-use Rattle.code.specs.Laws.Basics.{places-∈, top-lt, bottom-ge, top≢bottom, meets-row}
-use Rattle.tables.specs.Picture.{Sized, Picture, Pictured}
-use Rattle.tables.specs.PictureLaws.{Touched, picture-less}
+use Rattle.code.specs.Laws.Basics.{places-∈, meets-true, top-lt, bottom-ge, top≢bottom, meets-row}
+use Rattle.tables.specs.Picture.{Sized, onRow, Picture, Pictured}
+use Rattle.tables.specs.PictureLaws.{Touched, length-onRow-without, picture-less}
 use Rattle.tables.specs.Sizes.{sized-valid}
 use Rattle.tables.specs.Bounds.{left-some}
 use Rattle.tables.specs.Spots.{bottom-low, bottom-high}
 use Rattle.settling.specs.Queue.{Lowers}
-use Rattle.settling.specs.Settling.{Single, single, row-forces, syndrome-byte, touched-two}
+use Rattle.settling.specs.Settling.{Single, single, coded-other, row-forces, syndrome-byte, touched-two}
 
 -- k is the code of a place: its section and its offset are within the plan
 pub record Within (n t : ℕ) (shifts : List ℕ) (k : ℕ) : Type 0 where
@@ -72,7 +74,6 @@ beside-bottom eo h = record { of-top = λ l. absurd (omega arith); of-bottom = �
 pub record Rows (sum left code : List ℕ) (a b : ℕ) : Type 0 where
   pub sum-row : a < length sum
   pub left-row : a < length left
-  pub code-row : a < length code
   pub sum-other : b < length sum
   pub left-other : b < length left
   pub code-other : b < length code
@@ -83,7 +84,7 @@ pub record Rows (sum left code : List ℕ) (a b : ℕ) : Type 0 where
 pub record Removes (sum left code sum' left' code' : List ℕ) (a b k x rest : ℕ) : Type 0 where
   pub sums : sum' ≡ set (set sum a 0) b (getD (set sum a 0) b 0 ⊕ x)
   pub lefts : left' ≡ set (set left a 0) b (getD (set left a 0) b 0 - 1)
-  pub codes : code' ≡ set (set code a 0) b (getD (set code a 0) b 0 ⊕ k)
+  pub codes : code' ≡ set code b (getD code b 0 ⊕ k)
   pub rests : rest ≡ getD left' b 0
 
 module _ {sum left code : List ℕ} {a b : ℕ} (h : Rows sum left code a b) where
@@ -93,14 +94,11 @@ module _ {sum left code : List ℕ} {a b : ℕ} (h : Rows sum left code a b) whe
   pub rows-left : b < length (set left a 0)
   rows-left = rw (length-set left a 0) (h .left-other)
 
-  pub rows-code : b < length (set code a 0)
-  rows-code = rw (length-set code a 0) (h .code-other)
-
   pub rows-some : 1 ≤ getD (set left a 0) b 0
   rows-some = rw (getD-set-other left a b 0 0 (λ q. h .apart (sym q))) (h .some-other)
 
   pub removes : {sum' left' code' : List ℕ} {k x rest : ℕ} → sum' ≡ set (set sum a 0) b (getD (set sum a 0) b 0 ⊕ x)
-      → rest ≡ getD (set left a 0) b 0 - 1 → left' ≡ set (set left a 0) b rest → code' ≡ set (set code a 0) b (getD (set code a 0) b 0 ⊕ k)
+      → rest ≡ getD (set left a 0) b 0 - 1 → left' ≡ set (set left a 0) b rest → code' ≡ set code b (getD code b 0 ⊕ k)
       → Removes sum left code sum' left' code' a b k x rest
   removes {rest} s r l c = record {
     sums = s;
@@ -206,7 +204,6 @@ module _ {n t : ℕ} {shifts sum left code : List ℕ} {r : ℕ} (o : One n t sh
         record {
           sum-row = one-long .0;
           left-row = one-long .1;
-          code-row = one-long .2;
           sum-other = omega (arith, row-b, p .sum-long);
           left-other = omega (arith, row-b, p .counted .left-long);
           code-other = omega (arith, row-b, p .counted .code-long);
@@ -226,6 +223,14 @@ module _ {n t : ℕ} {shifts sum left code : List ℕ} {r : ℕ} (o : One n t sh
       left-touched : Touched (layout n t shifts) c (λ v. v - 1) left left'
       left-touched = two (λ v. v - 1) (o .pictured .picture .counted .left-long) (omega (arith, o .left-one)) (m .lefts)
 
+      -- the row has none left
+      settled : {E : List ℕ} {u : ℕ → ℕ} → Picture (layout n t shifts) E u sum left code → 0 < length (onRow (layout n t shifts) (without c E) r) → ⊥
+      unfolding layout
+      settled {E} p g =
+          let L = layout n t shifts in
+          let s = spot-single p in
+          omega (arith, g, length-onRow-without L E c r (rising-distinct (p .counted .erased .rising)) (s .member), only-true 1 (meets-true L c (s .meet)), p .counted .lefts r (o .row), o .left-one)
+
       next-of : (E : List ℕ) (u : ℕ → ℕ) → Picture (layout n t shifts) E u sum left code → Next (layout n t shifts) E u sum' left' code' c x
       unfolding layout
       next-of E u p =
@@ -237,7 +242,9 @@ module _ {n t : ℕ} {shifts sum left code : List ℕ} {r : ℕ} (o : One n t sh
             picture = picture-less L c x sum' left' code' p (s .member) (⊕-lt 8 (p .byte c) (rw v (syndrome-byte L u r (p .byte))))
                 (two (λ y. y ⊕ x) (p .sum-long) (rw e (⊕-self (getD sum r 0))) (m .sums))
                 left-touched
-                (subst (λ k. Touched L c (λ y. y ⊕ k) code code') (sym (s .packed)) (two (λ y. y ⊕ getD code r 0) (p .counted .code-long) (⊕-self (getD code r 0)) (m .codes)));
+                (ap length (m .codes) ∙ length-set code b (getD code b 0 ⊕ getD code r 0))
+                (λ q g. subst (λ k. getD code' q 0 ≡ getD code q 0 ⊕ only (meets L c q) k) (sym (s .packed))
+                (coded-other L c (getD code r 0) code code' r b (one-rows .code-other) other-meets both (m .codes) q (λ i. settled p (subst (λ q. 0 < length (onRow L (without c E) q)) i g))));
             forces = λ w z h. row-forces L u w s (z r (o .row)) h ∙ ap (λ y. u c ⊕ y) (sym v);
           }
 

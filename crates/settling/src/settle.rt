@@ -34,7 +34,7 @@ pub fn beside(n: usize, t: usize, shifts: &[u16], packed: Packed, row: usize) ->
     turned
 }
 
-// Takes a place out of its two rows. The first has no other left: nothing stays there. Gives the number left on the second.
+// Takes a place out of its two rows. The first has no other left: its code no longer counts. Gives the number left on the second.
 pub fn remove(
     sum: &mut [u8],
     left: &mut [u8],
@@ -48,7 +48,6 @@ pub fn remove(
     ensures { λ r. ⌜ Removes (now (sum .entry)) (now (left .entry)) (now (code .entry)) (now (sum .exit)) (now (left .exit)) (now (code .exit)) row other (packed .0) x r ⌝ }
 {
     left[row] = 0;
-    code[row] = 0;
     sum[row] = 0;
     code[other] = code[other] ^ packed.0;
     let rest = left[other] - 1;

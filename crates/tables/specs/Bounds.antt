@@ -14,7 +14,7 @@ use Rattle.plan.specs.Layout.{Layout, Valid, layout, topRow, bottomRow, top, bo
 use Rattle.code.specs.Places.{Meets}
 use Rattle.code.specs.Laws.Basics.{places-∈, place-unique, offset-lt, top≢bottom, meets-row}
 use Rattle.code.specs.Laws.Forest.{Erased}
-use Rattle.tables.specs.Picture.{Sized, Counted, onRow}
+use Rattle.tables.specs.Picture.{Sized, Remaining, onRow}
 use Rattle.tables.specs.Sizes.{sized-valid}
 use Rattle.tables.specs.StuckLaws.{onRow-∈, onRow-some, distinct-onRow}
 
@@ -53,7 +53,7 @@ module _ (L : Layout) (ok : Valid L) where
       inside : (j : ℕ) → j ∈ map (λ c. c / L .t) (onRow L E r) → j ∈ L .sections
       inside j i = let o = map-mem (λ c. c / L .t) (onRow L E r) i in rw (o .2) (section (o .0) (o .1))
 
-module _ {n t : ℕ} {shifts : List ℕ} (s : Sized n t shifts) {E left code : List ℕ} (C : Counted (layout n t shifts) E left code) where
+module _ {n t : ℕ} {shifts : List ℕ} (s : Sized n t shifts) {E left code : List ℕ} (C : Remaining (layout n t shifts) E left code) where
   pub left-room : {r : ℕ} → r < 2 * layout n t shifts .t → getD left r 0 + 1 < 256
   unfolding layout
   left-room {r} h = omega (arith, C .lefts r h, onRow-count (layout n t shifts) (sized-valid s) (C .erased) r, length-upTo n, s .n-max)

@@ -22,7 +22,7 @@ use Rattle.code.specs.Laws.Forest.{Erased}
 use Rattle.tables.specs.Picture.{Sized, Counted, codeOf, onRow}
 use Rattle.tables.specs.Spots.{Stands, Reached, reached-stands, stands-top, stands-bottom, stands-code, stands-inside}
 use Rattle.tables.specs.Sizes.{layout-t, sized-valid, sized-∈}
-use Rattle.tables.specs.PictureLaws.{counted-add}
+use Rattle.tables.specs.PictureLaws.{counted-add, remaining}
 use Rattle.tables.specs.Bounds.{left-room}
 
 -- the erasures from place a on
@@ -253,7 +253,7 @@ module _ {n t : ℕ} {shifts : List ℕ} {c e : ℕ} {left code : List ℕ} (D :
         section = omega (arith, D .sized .n-max);
         left-long = due-long .0;
         code-long = due-long .1;
-        room = λ r l. left-room (D .sized) (D .seen .counted) l;
+        room = λ r l. left-room (D .sized) (remaining (D .seen .counted)) l;
       }
 
   -- the same at the section that a scan has reached

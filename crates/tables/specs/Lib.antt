@@ -5,7 +5,6 @@ pub mod Spots
 pub mod PictureLaws
 pub mod Sizes
 pub mod Sweeps
-pub mod SumLaws
 pub mod Filling
 pub mod Zeros
 pub mod StuckLaws

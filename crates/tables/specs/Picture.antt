@@ -40,12 +40,20 @@ pub record Counted (L : Layout) (E left code : List ℕ) : Type 0 where
   pub lefts : (r : ℕ) → r < 2 * L .t → getD left r 0 ≡ length (onRow L E r)
   pub codes : (r : ℕ) → r < 2 * L .t → getD code r 0 ≡ xorOver (onRow L E r) (codeOf (L .t))
 
+-- The same as erasures are settled: of a row with none left the code does not count.
+pub record Remaining (L : Layout) (E left code : List ℕ) : Type 0 where
+  pub left-long : length left ≡ 2 * L .t
+  pub code-long : length code ≡ 2 * L .t
+  pub erased : Erased L E
+  pub lefts : (r : ℕ) → r < 2 * L .t → getD left r 0 ≡ length (onRow L E r)
+  pub codes : (r : ℕ) → r < 2 * L .t → 0 < length (onRow L E r) → getD code r 0 ≡ xorOver (onRow L E r) (codeOf (L .t))
+
 -- the tables picture erasures E and a block u, which may hold anything at the erasures
 pub record Picture (L : Layout) (E : List ℕ) (u : ℕ → ℕ) (sum left code : List ℕ) : Type 0 where
   pub sum-long : length sum ≡ 2 * L .t
   pub byte : (c : ℕ) → u c < 256
   pub sums : (r : ℕ) → r < 2 * L .t → getD sum r 0 ≡ syndrome L u r
-  pub counted : Counted L E left code
+  pub counted : Remaining L E left code
 
 -- the tables picture some block with erasures: what the code needs to go by them
 pub record Pictured (L : Layout) (sum left code : List ℕ) : Type 0 where

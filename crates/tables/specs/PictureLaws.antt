@@ -1,6 +1,6 @@
 -- How the tables change when a place is noted (it joins the erasures) and when one is settled (it leaves them, and its symbol changes).
 -- Main results: syndrome-change, length-onRow-add and -without, xor-onRow-add and -without, and from them
--- counted-more and picture-less; Touched says what stores at the two rows of a place do to a table.
+-- counted-more, remaining and picture-less; Touched says what stores at the two rows of a place do to a table.
 use mathlib.Core.Path.{_≡_, refl, sym, _∙_, ap, subst}
 use mathlib.Core.Logic.{inl, inr, ⊎-elim, by-cases}
 use mathlib.Core.Bool.{Bool, not, _&&_, and-comm, true≢false}
@@ -24,7 +24,7 @@ use Rattle.code.specs.Codewords.{syndrome}
 use Rattle.code.specs.Checks.{update}
 use Rattle.code.specs.Laws.Basics.{distinct-places, top≢bottom, meets-row, meets-true, true-meets, syndrome-ext, syndrome-add}
 use Rattle.code.specs.Laws.Settle.{update-same, update-other}
-use Rattle.tables.specs.Picture.{codeOf, onRow, Counted, Picture}
+use Rattle.tables.specs.Picture.{codeOf, onRow, Counted, Remaining, Picture}
 
 -- ---- a symbol changes
 
@@ -183,12 +183,17 @@ counted-add L ok c {E} {left} {code} C left₁ left₂ code₁ code₂ m above l
     (touched L ok c (λ y. y + 1) left left₁ left₂ (C .left-long) l l')
     (touched L ok c (λ y. y ⊕ codeOf (L .t) c) code code₁ code₂ (C .code-long) k k')
 
--- settling: c leaves the erasures, and x is added to its symbol
+-- before any is settled
+pub remaining : {L : Layout} {E left code : List ℕ} → Counted L E left code → Remaining L E left code
+remaining C = record { left-long = C .left-long; code-long = C .code-long; erased = C .erased; lefts = C .lefts; codes = λ r h g. C .codes r h }
+
+-- settling: c leaves the erasures, and x is added to its symbol; the code is changed where an erasure is left
 pub picture-less : (L : Layout) (c x : ℕ) {E : List ℕ} {u : ℕ → ℕ} {sum left code : List ℕ} (sum' left' code' : List ℕ)
     → Picture L E u sum left code → c ∈ E → u c ⊕ x < 256
-    → Touched L c (λ y. y ⊕ x) sum sum' → Touched L c (λ y. y - 1) left left' → Touched L c (λ y. y ⊕ codeOf (L .t) c) code code'
+    → Touched L c (λ y. y ⊕ x) sum sum' → Touched L c (λ y. y - 1) left left' → length code' ≡ length code
+    → ((r : ℕ) → 0 < length (onRow L (without c E) r) → getD code' r 0 ≡ getD code r 0 ⊕ only (meets L c r) (codeOf (L .t) c))
     → Picture L (without c E) (update u c (u c ⊕ x)) sum' left' code'
-picture-less L c x {E} {u} {sum} {left} {code} sum' left' code' P m b s l k =
+picture-less L c x {E} {u} {sum} {left} {code} sum' left' code' P m b s l kl k =
     let C = P .counted in
     let d = rising-distinct (C .erased .rising) in
     record {
@@ -198,13 +203,13 @@ picture-less L c x {E} {u} {sum} {left} {code} sum' left' code' P m b s l k =
           ∙ sym (syndrome-change L u (update u c (u c ⊕ x)) c x r (C .erased .inside c m) (update-xor u c x (u c ⊕ x) refl));
       counted = record {
         left-long = l .long ∙ C .left-long;
-        code-long = k .long ∙ C .code-long;
+        code-long = kl ∙ C .code-long;
         erased = record {
           rising = rising-without c (C .erased .rising);
           inside = λ a i. C .erased .inside a (without-∈ c E i .0);
         };
         lefts = λ r h. touched-by L c 1 _-_ sub-zero l r ∙ ap (λ y. y - only (meets L c r) 1) (C .lefts r h) ∙ sym (length-onRow-without L E c r d m);
-        codes = λ r h. touched-by L c (codeOf (L .t) c) _⊕_ ⊕-zero k r ∙ ap (λ y. y ⊕ only (meets L c r) (codeOf (L .t) c)) (C .codes r h)
+        codes = λ r h g. k r g ∙ ap (λ y. y ⊕ only (meets L c r) (codeOf (L .t) c)) (C .codes r h (omega (arith, g, length-onRow-without L E c r d m)))
             ∙ sym (xor-onRow-without L E c r (codeOf (L .t)) d m);
       };
     }

@@ -1,11 +1,15 @@
 -- Tables of zeros, and their front parts.
--- Main results: zeros, zeros-room, zeros-part, front-long.
+-- Main results: zeros-long, zeros, zeros-room, zeros-part, front-long.
 use mathlib.Core.Path.{_≡_, refl, sym, _∙_, ap}
 use mathlib.Core.List.{List, _∷_}
-use Prim.Native.Nat.{ℕ, zero, suc, _≤_}
+use Prim.Native.Nat.{ℕ, zero, suc, _*_, _≤_}
 use native.Mathlib.Omega.{arith}
 use lib.ListN.{length, take, replicate, length-replicate}
 use lib.Seq.{length-take-le}
+
+-- a table of zeros with an entry for each row
+pub zeros-long : (t : ℕ) (sum : List ℕ) → sum ≡ replicate (2 * t) 0 → length sum ≡ 2 * t
+zeros-long t sum e = rw e (length-replicate (2 * t) 0)
 
 -- a table of zeros with room for m entries
 pub record Zeros (m : ℕ) (table : List ℕ) : Type 0 where

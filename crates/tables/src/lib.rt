@@ -12,7 +12,6 @@ use plan::Place;
 pub mod marks;
 pub mod packed;
 pub mod rows;
-pub mod sums;
 pub mod sweep;
 pub mod walk;
 pub mod words;

@@ -26,15 +26,6 @@ pub fn bottom(spot: Spot, t: usize, p: usize) -> Row
     Row((t + (spot.offset + t - p)) as u16)
 }
 
-// The row's sum with x added.
-pub fn add(sum: &mut [u8], r: Row, x: u8)
-    requires { ⌜ r .0 < length (now sum) ⌝ }
-    ensures { λ _. ⌜ now (sum .exit) ≡ set (now (sum .entry)) (r .0) (getD (now (sum .entry)) (r .0) 0 ⊕ x) ⌝ }
-{
-    let i = r.0 as usize;
-    sum[i] = sum[i] ^ x;
-}
-
 // One erasure more on the row: the place with code c.
 pub fn put_in(left: &mut [u8], code: &mut [u16], r: Row, c: Packed)
     requires { ⌜ (r .0 < length (now left)) × (r .0 < length (now code)) × (getD (now left) (r .0) 0 + 1 < 256) ⌝ }

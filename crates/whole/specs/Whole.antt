@@ -14,7 +14,7 @@ use Rattle.code.specs.Codewords.{at, bitOf}
 use Rattle.code.specs.Marks.{mark, erasures}
 use Rattle.code.specs.Laws.MarksLaws.{in-erasures}
 use Rattle.tables.specs.Scan.{Lent}
-use Rattle.tables.specs.SumLaws.{Syndromes}
+use Rattle.sums.specs.SumLaws.{Syndromes}
 use Rattle.settling.specs.Fill.{cleanOf, clean-zero}
 use Rattle.promises.specs.Promises.{Decides}
 use Rattle.promises.specs.Building.{decides-recovered}

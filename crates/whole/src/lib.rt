@@ -10,8 +10,8 @@ ghost use Rattle.whole.specs.Whole.{Summed, Intact};
 use promises::Recovery;
 use settling::fill::clean;
 use settling::fill::fill;
+use sums::syndromes;
 use tables::marks::clear_words;
-use tables::sums::syndromes;
 
 // The row sums of the block. The answer: no place is marked and every row sums to 0, so the block is the codeword.
 pub fn intact(

@@ -6,7 +6,7 @@ use borrow.Author.Needs.{needs}
 use Rattle.plan.specs.Layout.{layout}
 use Rattle.code.specs.Laws.ParityCount.{parities}
 use Rattle.tables.specs.Spots.{Reached, reached-on}
-use Rattle.tables.specs.SumLaws.{zeros-long}
+use Rattle.tables.specs.Zeros.{zeros-long}
 use Rattle.tables.specs.Counting.{Seen, seen-at, seen-long, seen-start}
 use Rattle.parities.specs.Settling.{section-next, section-fits, sections-end, section-due, section-noted, all-noted}
 use Rattle.parities.proofs.count_parities.Statement.{statement}

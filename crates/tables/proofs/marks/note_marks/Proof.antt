@@ -6,7 +6,7 @@ use lib.ListN.{length}
 use Rattle.tables.specs.Spots.{Reached, reached-on}
 use Rattle.tables.specs.Counting.{seen-long}
 use Rattle.tables.specs.Scan.{Scanned, scanned-at, scanned-clear, scanned-end, scanned-first, scanned-start, words-end}
-use Rattle.tables.specs.SumLaws.{zeros-long}
+use Rattle.tables.specs.Zeros.{zeros-long}
 use Rattle.tables.proofs.marks.note_marks.Statement.{statement}
 use Rattle.tables.proofs.marks.note_marks.Tie as tie
 

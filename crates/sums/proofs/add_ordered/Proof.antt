@@ -1,9 +1,9 @@
--- `tables::sums::add_ordered` meets its contract: the three parts together are the two sections turned.
+-- `sums::add_ordered` meets its contract: the three parts together are the two sections turned.
 use mathlib.Core.Path.{refl}
 use native.Mathlib.Omega.{arith}
-use Rattle.tables.specs.SumLaws.{second-long, third-long, turned-pair}
-use Rattle.tables.proofs.sums.add_ordered.Statement.{statement}
-use Rattle.tables.proofs.sums.add_ordered.Tie as tie
+use Rattle.sums.specs.SumLaws.{second-long, third-long, turned-pair}
+use Rattle.sums.proofs.add_ordered.Statement.{statement}
+use Rattle.sums.proofs.add_ordered.Tie as tie
 
 sub-first : tie.Need-sub-first
 sub-first c = omega arith

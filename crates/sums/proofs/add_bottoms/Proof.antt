@@ -1,12 +1,12 @@
--- `tables::sums::add_bottoms` meets its contract. The invariant: the first j sections are added.
+-- `sums::add_bottoms` meets its contract. The invariant: the first j sections are added.
 use mathlib.Core.Path.{_≡_, _∙_}
 use Prim.Native.Nat.{_+_, _≤_, _-_, _*_}
 use native.Mathlib.Nat.{add-mul}
 use native.Mathlib.Omega.{arith}
-use Rattle.tables.specs.SumLaws.{added, turned, added-none, added-all, turned-one, turned-two, one-more, section-fits, sections-fit, section-part, section-long}
+use Rattle.sums.specs.SumLaws.{added, turned, added-none, added-all, turned-one, turned-two, one-more, section-fits, sections-fit, section-part, section-long}
 use Rattle.tables.specs.Sweeps.{Mapped}
-use Rattle.tables.proofs.sums.add_bottoms.Statement.{statement}
-use Rattle.tables.proofs.sums.add_bottoms.Tie as tie
+use Rattle.sums.proofs.add_bottoms.Statement.{statement}
+use Rattle.sums.proofs.add_bottoms.Tie as tie
 
 abbrev Inv-loop : tie.InvT-loop
 Inv-loop n t shifts block bottom₀ j₀ a₀ bottom j a = (j ≤ n) × (a ≡ j * t) × Mapped (added (turned t shifts block) j) bottom₀ bottom

@@ -1,13 +1,13 @@
--- `tables::sums::add_eight` meets its contract. The invariant: the first i sums are made, the others are as they were.
+-- `sums::add_eight` meets its contract. The invariant: the first i sums are made, the others are as they were.
 use Prim.Native.Nat.{_≤_, _-_}
 use mathlib.Core.Path.{ap}
 use native.Mathlib.Omega.{arith}
 use lib.ListN.{getD, set}
 use Rattle.math.specs.Xor.{_⊕_}
-use Rattle.tables.specs.SumLaws.{added, straight, eight-added}
+use Rattle.sums.specs.SumLaws.{added, straight, eight-added}
 use Rattle.tables.specs.Sweeps.{MappedTo, mapped-none, mapped-more, mapped-all}
-use Rattle.tables.proofs.sums.add_eight.Statement.{statement}
-use Rattle.tables.proofs.sums.add_eight.Tie as tie
+use Rattle.sums.proofs.add_eight.Statement.{statement}
+use Rattle.sums.proofs.add_eight.Tie as tie
 
 abbrev Inv-loop : tie.InvT-loop
 Inv-loop t sections top₀ i₀ top i = (i ≤ t) × MappedTo (added (straight t sections) 8) top₀ i top

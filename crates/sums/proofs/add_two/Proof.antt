@@ -1,8 +1,8 @@
--- `tables::sums::add_two` meets its contract: the sections in either order.
+-- `sums::add_two` meets its contract: the sections in either order.
 use borrow.Author.Needs.{needs}
-use Rattle.tables.specs.SumLaws.{turned-swapped}
-use Rattle.tables.proofs.sums.add_two.Statement.{statement}
-use Rattle.tables.proofs.sums.add_two.Tie as tie
+use Rattle.sums.specs.SumLaws.{turned-swapped}
+use Rattle.sums.proofs.add_two.Statement.{statement}
+use Rattle.sums.proofs.add_two.Tie as tie
 
 add-ordered-requires : tie.Need-add-ordered-requires
 add-ordered-requires c κs = search needs

@@ -1,13 +1,13 @@
--- `tables::sums::add_tops` meets its contract. The invariant: the first j sections are added.
+-- `sums::add_tops` meets its contract. The invariant: the first j sections are added.
 use mathlib.Core.Path.{_≡_, _∙_}
 use Prim.Native.Nat.{_≤_, _-_, _*_}
 use native.Mathlib.Nat.{add-mul}
 use native.Mathlib.Omega.{arith}
 use lib.ListN.{length, take, drop}
-use Rattle.tables.specs.SumLaws.{added, straight, added-none, added-more, added-all, rest-symbol, rest-long, group-fits}
+use Rattle.sums.specs.SumLaws.{added, straight, added-none, added-more, added-all, rest-symbol, rest-long, group-fits}
 use Rattle.tables.specs.Sweeps.{Mapped}
-use Rattle.tables.proofs.sums.add_tops.Statement.{statement}
-use Rattle.tables.proofs.sums.add_tops.Tie as tie
+use Rattle.sums.proofs.add_tops.Statement.{statement}
+use Rattle.sums.proofs.add_tops.Tie as tie
 
 abbrev Inv-loop : tie.InvT-loop
 Inv-loop n t block top₀ j₀ a₀ top j a = (j ≤ n) × (a ≡ j * t) × Mapped (added (straight t block) j) top₀ top

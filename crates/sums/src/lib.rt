@@ -2,9 +2,9 @@
 ghost use mathlib.Core.Path.{_≡_};
 ghost use Prim.Native.Nat.{_*_, _≤_, _<_};
 ghost use lib.ListN.{length, replicate};
 ghost use Rattle.tables.specs.Picture.{Sized};
-ghost use Rattle.tables.specs.SumLaws.{Xored, withTwo, added, straight, turned, turnedBy, turnedTwo, Taken, Syndromes};
+ghost use Rattle.sums.specs.SumLaws.{Xored, withTwo, added, straight, turned, turnedBy, turnedTwo, Taken, Syndromes};
 ghost use Rattle.tables.specs.Sweeps.{Mapped};
 
 // Adds src to dst, symbol by symbol.
 pub fn xor_into(dst: &mut [u8], src: &[u8])

@@ -1,10 +1,11 @@
--- `tables::sums::syndromes` meets its contract: the top rows and the bottom rows together.
+-- `sums::syndromes` meets its contract: the top rows and the bottom rows together.
 use mathlib.Core.Path.{refl}
 use native.Mathlib.Omega.{arith}
 use borrow.Author.Needs.{needs}
-use Rattle.tables.specs.SumLaws.{zeros-long, both-halves}
-use Rattle.tables.proofs.sums.syndromes.Statement.{statement}
-use Rattle.tables.proofs.sums.syndromes.Tie as tie
+use Rattle.sums.specs.SumLaws.{both-halves}
+use Rattle.tables.specs.Zeros.{zeros-long}
+use Rattle.sums.proofs.syndromes.Statement.{statement}
+use Rattle.sums.proofs.syndromes.Tie as tie
 
 mul-end : tie.Need-mul-end
 mul-end c = search needs

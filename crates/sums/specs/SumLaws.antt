@@ -24,10 +24,11 @@ use Rattle.plan.specs.Layout.{layout, top, bottom, bottomRow}
 use Rattle.code.specs.Places.{Meets, meets}
 use Rattle.code.specs.Codewords.{syndrome}
 use Rattle.code.specs.Laws.Basics.{meets-true, true-meets}
 use Rattle.tables.specs.Picture.{Sized}
 use Rattle.tables.specs.Spots.{Stands, stands-top, stands-bottom}
 use Rattle.tables.specs.Sizes.{sized-places}
+use Rattle.tables.specs.Zeros.{zeros-long}
 use Rattle.tables.specs.Sweeps.{Mapped, PartMapped, withSymbol, part-mapped}
 
 -- ---- one slice into another
 
@@ -434,9 +435,6 @@ section-long t a block h = length-take-le (a + t - a) (drop a block) (rw (length
 pub record Syndromes (n t : ℕ) (shifts block sum : List ℕ) : Type 0 where
   pub long : length sum ≡ 2 * t
   pub each : (r : ℕ) → r < 2 * t → getD sum r 0 ≡ syndrome (layout n t shifts) (λ c. getD block c 0) r
-
-pub zeros-long : (t : ℕ) (sum : List ℕ) → sum ≡ replicate (2 * t) 0 → length sum ≡ 2 * t
-zeros-long t sum e = rw e (length-replicate (2 * t) 0)
 
 -- the top rows, then the bottom rows
 pub both-halves : (n t : ℕ) (shifts block sum part₁ mid part₂ new : List ℕ) → Sized n t shifts → sum ≡ replicate (2 * t) 0

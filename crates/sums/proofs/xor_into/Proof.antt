@@ -1,13 +1,13 @@
--- `tables::sums::xor_into` meets its contract. The invariant: the first i symbols have their sum, the others are as they were.
+-- `sums::xor_into` meets its contract. The invariant: the first i symbols have their sum, the others are as they were.
 use Prim.Native.Nat.{_≤_, _-_}
 use mathlib.Core.Path.{refl}
 use native.Mathlib.Omega.{arith}
 use lib.ListN.{length}
 use Rattle.math.specs.Xor.{_⊕_}
-use Rattle.tables.specs.SumLaws.{xored-all}
+use Rattle.sums.specs.SumLaws.{xored-all}
 use Rattle.tables.specs.Sweeps.{MappedTo, withSymbol, mapped-none, mapped-more, mapped-all}
-use Rattle.tables.proofs.sums.xor_into.Statement.{statement}
-use Rattle.tables.proofs.sums.xor_into.Tie as tie
+use Rattle.sums.proofs.xor_into.Statement.{statement}
+use Rattle.sums.proofs.xor_into.Tie as tie
 
 abbrev Inv-loop : tie.InvT-loop
 Inv-loop dst₀ src i₀ dst i = (i ≤ length dst₀) × MappedTo (withSymbol src) dst₀ i dst

@@ -1,10 +1,10 @@
--- `tables::sums::add_turned` meets its contract: the two parts together are the section turned.
+-- `sums::add_turned` meets its contract: the two parts together are the section turned.
 use mathlib.Core.Path.{refl}
 use native.Mathlib.Omega.{arith}
 use borrow.Author.Needs.{needs}
-use Rattle.tables.specs.SumLaws.{turned-parts}
-use Rattle.tables.proofs.sums.add_turned.Statement.{statement}
-use Rattle.tables.proofs.sums.add_turned.Tie as tie
+use Rattle.sums.specs.SumLaws.{turned-parts}
+use Rattle.sums.proofs.add_turned.Statement.{statement}
+use Rattle.sums.proofs.add_turned.Tie as tie
 
 sub-cut : tie.Need-sub-cut
 sub-cut c = omega arith

@@ -1,11 +1,11 @@
--- `tables::sums::add_next` meets its contract: so many sections are there.
+-- `sums::add_next` meets its contract: so many sections are there.
 use mathlib.Core.Path.{refl}
 use native.Mathlib.Omega.{arith}
 use borrow.Author.Needs.{needs}
 use lib.ListN.{length}
-use Rattle.tables.specs.SumLaws.{fewer-fit, first-added}
-use Rattle.tables.proofs.sums.add_next.Statement.{statement}
-use Rattle.tables.proofs.sums.add_next.Tie as tie
+use Rattle.sums.specs.SumLaws.{fewer-fit, first-added}
+use Rattle.sums.proofs.add_next.Statement.{statement}
+use Rattle.sums.proofs.add_next.Tie as tie
 
 add-eight-requires : tie.Need-add-eight-requires
 add-eight-requires c κs = (fewer-fit 8 (c .before .before .before .before .args .left) (c .before .before .before .before .args .t) _ (omega arith) (c .before .before .before .before .pre .1), c .before .before .before .before .pre .2)

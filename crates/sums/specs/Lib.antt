@@ -1,0 +1,2 @@
+-- The row sums of a block, section by section.
+pub mod SumLaws
