@@ -42,14 +42,14 @@ typedef struct {
     fumizhaki_plan plan;
     size_t places, message_length, patterns;
     int damaged; /* an unmarked symbol is not the codeword's */
-    uint8_t codeword[MAX_PLACES], block[MAX_PLACES], message[MAX_PLACES], marks[MAX_PATTERNS][MAX_PLACES / 8];
+    _Alignas(64) uint8_t codeword[MAX_PLACES], block[MAX_PLACES], message[MAX_PLACES], marks[MAX_PATTERNS][MAX_PLACES / 8];
 } input;
 
 /* What a call leaves behind. */
 typedef struct {
     uint8_t answer;
     size_t count;
-    uint8_t block[MAX_PLACES], message[MAX_PLACES];
+    _Alignas(64) uint8_t block[MAX_PLACES], message[MAX_PLACES];
     uint16_t witness[4096];
 } output;
 

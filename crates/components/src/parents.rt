@@ -22,7 +22,7 @@ fn find(parent: &mut [u16], x: Row) -> Row
 }
 
 // Rows x and y are joined. The answer: they were joined before.
-pub fn unite(parent: &mut [u16], x: Row, y: Row) -> bool
+pub(crate) fn unite(parent: &mut [u16], x: Row, y: Row) -> bool
     requires { ⌜ Falls (now parent) × (x .0 < length (now parent)) × (y .0 < length (now parent)) ⌝ }
     ensures { λ r. ⌜ Unites (now (parent .entry)) (x .0) (y .0) (now (parent .exit)) r ⌝ }
 {
@@ -42,7 +42,7 @@ pub fn unite(parent: &mut [u16], x: Row, y: Row) -> bool
 }
 
 // Every row is its own parent.
-pub fn own(parent: &mut [u16])
+pub(crate) fn own(parent: &mut [u16])
     requires { ⌜ length (now parent) ≤ 65536 ⌝ }
     ensures { λ _. ⌜ Own (now (parent .entry)) (now (parent .exit)) (length (now (parent .entry))) ⌝ }
 {
@@ -54,7 +54,7 @@ pub fn own(parent: &mut [u16])
 }
 
 // Every row is hung from its root.
-pub fn settle(parent: &mut [u16])
+pub(crate) fn settle(parent: &mut [u16])
     requires { ⌜ Falls (now parent) ⌝ }
     ensures { λ _. ⌜ Settled (now (parent .entry)) (now (parent .exit)) (length (now (parent .entry))) ⌝ }
 {

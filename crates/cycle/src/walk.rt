@@ -57,7 +57,7 @@ fn pair(
 }
 
 // Writes the cycle that begins with a code, zeros after it, and gives its length.
-pub fn walk(
+pub(crate) fn walk(
     n: usize,
     t: usize,
     shifts: &[u16],

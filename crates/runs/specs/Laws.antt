@@ -2,5 +2,4 @@
 pub mod Computing
 pub mod Fronts
 pub mod Copying
-pub mod Marking
 pub mod Carried

@@ -1,5 +1,4 @@
--- The runs of message places: what they are, and the laws by which they are computed, copied and marked.
+-- The runs of message places: what they are, and the laws by which they are computed and copied.
 pub mod Sized
 pub mod Runs
-pub mod Ranges
 pub mod Laws

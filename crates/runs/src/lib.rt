@@ -1,6 +1,6 @@
 // The runs of message places: of each section the number of its first places that carry the message.
 // Entries: runs, gather, spread.
-// The modules marks and parts are public for the crates above only.
+// The module parts is public for the crates above only.
 ghost use mathlib.Core.Path.{_≡_};
 ghost use Prim.Native.Nat.{_+_, _*_, _/_, _≤_};
 ghost use mathlib.Core.List.{map};
@@ -14,7 +14,6 @@ use shifts::gap;
 use shifts::gcd;
 use shifts::wide;
 
-pub mod marks;
 pub mod parts;
 
 // From the last section down, with the divisor of the differences so far.

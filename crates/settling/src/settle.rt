@@ -17,7 +17,7 @@ pub struct Settled {
 
 // The row that a place meets beside the given one. For the bottom row the test only decides whether t is added: the outcome is hard to foresee, and
 // of this form no branch is made.
-pub fn beside(n: usize, t: usize, shifts: &[u16], packed: Packed, row: usize) -> usize
+pub(crate) fn beside(n: usize, t: usize, shifts: &[u16], packed: Packed, row: usize) -> usize
     requires { ⌜ Within n t (now shifts) (packed .0) ⌝ }
     ensures { λ r. ⌜ Beside t (now (shifts .entry)) (packed .0) row r ⌝ }
 {
@@ -35,7 +35,7 @@ pub fn beside(n: usize, t: usize, shifts: &[u16], packed: Packed, row: usize) ->
 }
 
 // Takes a place out of its two rows. The first has no other left: its code no longer counts. Gives the number left on the second.
-pub fn remove(
+pub(crate) fn remove(
     sum: &mut [u8],
     left: &mut [u8],
     code: &mut [u16],

@@ -3,7 +3,7 @@ ghost use mathlib.Core.Path.{_≡_};
 ghost use mathlib.Core.List.{map};
 ghost use Rattle.settling.specs.Fill.{allZero, one};
 
-pub fn zero_bytes(l: &[u8]) -> bool
+pub(crate) fn zero_bytes(l: &[u8]) -> bool
     ensures { λ r. ⌜ r ≡ allZero (now (l .entry)) ⌝ }
 {
     let mut any: u8 = 0;
@@ -15,7 +15,7 @@ pub fn zero_bytes(l: &[u8]) -> bool
     any == 0
 }
 
-pub fn no_ones(l: &[u8]) -> bool
+pub(crate) fn no_ones(l: &[u8]) -> bool
     ensures { λ r. ⌜ r ≡ allZero (map one (now (l .entry))) ⌝ }
 {
     let mut any: u8 = 0;

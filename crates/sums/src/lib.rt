@@ -7,7 +7,7 @@ ghost use Rattle.sums.specs.SumLaws.{Xored, withTwo, added, straight, tu
 ghost use Rattle.tables.specs.Sweeps.{Mapped};
 
 // Adds src to dst, symbol by symbol.
-pub fn xor_into(dst: &mut [u8], src: &[u8])
+fn xor_into(dst: &mut [u8], src: &[u8])
     requires { ⌜ length (now src) ≡ length (now dst) ⌝ }
     ensures { λ _. ⌜ Xored (now (dst .entry)) (now (src .entry)) (now (dst .exit)) ⌝ }
 {

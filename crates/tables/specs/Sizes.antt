@@ -9,10 +9,6 @@ use Rattle.code.specs.Places.{places}
 use Rattle.code.specs.Laws.MarksLaws.{places-all}
 use Rattle.tables.specs.Picture.{Sized}
 
-pub layout-n : (n t : ℕ) (shifts : List ℕ) → layout n t shifts .n ≡ n
-unfolding layout
-layout-n n t shifts = refl
-
 pub layout-t : (n t : ℕ) (shifts : List ℕ) → layout n t shifts .t ≡ t
 unfolding layout
 layout-t n t shifts = refl

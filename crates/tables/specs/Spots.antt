@@ -12,7 +12,6 @@ use lib.Arith.{digits-div, digits-mod}
 use lib.ListN.{getD}
 use Rattle.plan.specs.Layout.{layout, top, bottom, topRow, bottomRow}
 use Rattle.tables.specs.Picture.{codeOf}
-use Rattle.tables.specs.Codes.{code-offset, code-place}
 
 -- place c is symbol k of section j
 pub record Stands (t c j k : ℕ) : Type 0 where
@@ -53,10 +52,6 @@ bottom-low t p k l h =
 pub bottom-high : (t p k : ℕ) → p < t → k < p → bottomRow t p k ≡ t + (k + t - p)
 unfolding bottomRow
 bottom-high t p k l h = rw (mod-eq-of-lt {n = k + t - p} {m = t} (omega arith))
-
--- a place as its code says
-pub stands-coded : (t c : ℕ) → 0 < t → t ≤ 2048 → Stands t c (codeOf t c / 2048) (codeOf t c % 2048)
-stands-coded t c h l = record { whole = sym (code-place t h l c); within = rw (code-offset t h l c) (mod-lt c h) }
 
 -- a scan that has come to place c knows of a section j that begins at or before it: its first place, the place after its last, its shift
 pub record Reached (n t : ℕ) (shifts : List ℕ) (c j begin end p : ℕ) : Type 0 where

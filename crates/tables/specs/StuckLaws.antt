@@ -288,9 +288,6 @@ module _ {L : Layout} {E l : List ℕ} {i j : ℕ} (row : ℕ → ℕ) (on : (c 
   shared : Meets L (at l j) (row (at l i))
   shared = subst (λ r. Meets L (at l j) r) (sym (ms .same)) (on (at l j))
 
-  pub mates-only : (e : ℕ) → e ∈ onRow L E (row (at l i)) → (e ≡ at l i) ⊎ (e ≡ at l j)
-  mates-only = pair-only L (row (at l i)) (rising-distinct up) (cy .inside i (ms .left)) (cy .inside j (ms .right)) apart (on (at l i)) shared two
-
   pub mates-sum : (f : ℕ → ℕ) → xorOver (onRow L E (row (at l i))) f ≡ f (at l i) ⊕ f (at l j)
   mates-sum = pair-sum L (row (at l i)) (rising-distinct up) (cy .inside i (ms .left)) (cy .inside j (ms .right)) apart (on (at l i)) shared two
 

@@ -27,7 +27,7 @@ pub fn bottom(spot: Spot, t: usize, p: usize) -> Row
 }
 
 // One erasure more on the row: the place with code c.
-pub fn put_in(left: &mut [u8], code: &mut [u16], r: Row, c: Packed)
+pub(crate) fn put_in(left: &mut [u8], code: &mut [u16], r: Row, c: Packed)
     requires { ⌜ (r .0 < length (now left)) × (r .0 < length (now code)) × (getD (now left) (r .0) 0 + 1 < 256) ⌝ }
     ensures { λ _. ⌜ now (left .exit) ≡ set (now (left .entry)) (r .0) (getD (now (left .entry)) (r .0) 0 + 1) ⌝ }
     ensures { λ _. ⌜ now (code .exit) ≡ set (now (code .entry)) (r .0) (getD (now (code .entry)) (r .0) 0 ⊕ c .0) ⌝ }

@@ -58,7 +58,7 @@ fn sweep_code(code: &mut [u16], a: usize, b: usize, m: usize, c: Packed)
 }
 
 // Notes the m places from the spot on; p is the shift of their section.
-pub fn note_run(t: usize, p: usize, m: usize, spot: Spot, left: &mut [u8], code: &mut [u16])
+pub(crate) fn note_run(t: usize, p: usize, m: usize, spot: Spot, left: &mut [u8], code: &mut [u16])
     requires { ⌜ Ready t p (spot .section) (spot .offset) (now left) (now code) ⌝ }
     requires { ⌜ Stretch t p (spot .offset) m × (0 < m) ⌝ }
     ensures { λ _. ⌜ Run t p (spot .section) (spot .offset) m (now (left .entry)) (now (code .entry)) (now (left .exit)) (now (code .exit)) ⌝ }

@@ -36,7 +36,7 @@ impl Section {
     }
 
     // The section of place c, which is this one or a later one: nearly always this one.
-    pub fn reach(self, n: usize, t: usize, shifts: &[u16], c: usize) -> Section
+    pub(crate) fn reach(self, n: usize, t: usize, shifts: &[u16], c: usize) -> Section
         requires { ⌜ Sized n t (now shifts) × Reached n t (now shifts) c (self .index) (self .begin) (self .end) (self .shift) × (c < n * t) ⌝ }
         ensures { λ r. ⌜ Reached n t (now (shifts .entry)) c (r .index) (r .begin) (r .end) (r .shift) × (c < r .end) ⌝ }
     {
@@ -58,7 +58,7 @@ impl Section {
     }
 
     // The number of places from c on whose bottom rows follow on each other, before this section's end and before `end`.
-    pub fn stretch(self, n: usize, t: usize, shifts: &[u16], c: usize, end: usize) -> usize
+    pub(crate) fn stretch(self, n: usize, t: usize, shifts: &[u16], c: usize, end: usize) -> usize
         requires { ⌜ Sized n t (now shifts) × Reached n t (now shifts) c (self .index) (self .begin) (self .end) (self .shift) × (c < self .end) × (c < end) ⌝ }
         ensures { λ r. ⌜ Stretch t (self .shift) (c - self .begin) r × (0 < r) × (c + r ≤ end) ⌝ }
     {
