@@ -1,14 +1,14 @@
 -- Reading: the row test tells codewords from other blocks.
 -- Main result: tells-codeword.
 use mathlib.Core.Path.{_≡_, sym, _∙_, ap}
-use mathlib.Core.List.{List, [], _++_}
+use mathlib.Core.List.{List, _++_}
 use Prim.Native.Nat.{ℕ, _*_, _≤_, _<_}
 use native.Mathlib.Omega.{arith}
 use lib.ListN.{length, getD, take, length-append}
 use lib.Seq.{take-at}
 use Rattle.plan.specs.Layout.{layout}
 use Rattle.code.specs.Codewords.{Codeword}
-use Rattle.settling.specs.Fill.{cleanOf, clean-zero, zero-clean}
+use Rattle.settling.specs.Fill.{allZero, allZero-at, at-allZero}
 use mathlib.Core.Bool.{Bool, true, false, true≢false}
 use Rattle.sums.specs.SumLaws.{Syndromes}
 
@@ -27,12 +27,12 @@ module _ {n t : ℕ} {shifts v sum : List ℕ} (s : Syndromes n t shifts v sum) 
 
 -- the test goes by a list that is the table of row sums
 pub tells-codeword : (n t : ℕ) (shifts v : List ℕ) {sum list : List ℕ} {b : Bool} → length v ≡ n * t → ((c : ℕ) → getD v c 0 < 256) →
-    Syndromes n t shifts v sum → list ≡ sum → b ≡ cleanOf list [] → Tells (Codeword (layout n t shifts) v) b
+    Syndromes n t shifts v sum → list ≡ sum → b ≡ allZero list → Tells (Codeword (layout n t shifts) v) b
 unfolding layout
 tells-codeword n t shifts v {sum} {list} long byte s same e =
-    let f = e ∙ ap (λ l. cleanOf l []) same in
+    let f = e ∙ ap allZero same in
     record {
-      yes = λ q. record { whole = long; symbols = byte; sums = λ r h. sym (s .each r h) ∙ clean-zero sum [] (sym f ∙ q) r .0 };
+      yes = λ q. record { whole = long; symbols = byte; sums = λ r h. sym (s .each r h) ∙ allZero-at sum (sym f ∙ q) r };
       no = λ q w. true≢false
-          (sym (zero-clean sum [] (λ r h. let l : r < 2 * t = omega (arith, s .long) in s .each r l ∙ w .sums r l) (λ r h. absurd (omega arith))) ∙ sym f ∙ q);
+          (sym (at-allZero sum (λ r h. let l : r < 2 * t = omega (arith, s .long) in s .each r l ∙ w .sums r l)) ∙ sym f ∙ q);
     }

@@ -25,7 +25,7 @@ use promises::Reading;
 use runs::gather;
 use runs::runs;
 use runs::spread;
-use settling::fill::clean;
+use settling::zeros::zero_bytes;
 use shifts::wide;
 use sums::syndromes;
 
@@ -118,7 +118,7 @@ fn rows_clean(n: usize, t: usize, shifts: &[u16], block: &[u8], sum: &mut [u8]) 
 {
     let rows = 2 * t;
     syndromes(n, t, shifts, block, &mut sum[..rows]);
-    clean(&sum[..rows], &block[0..0])
+    zero_bytes(&sum[..rows])
 }
 
 fn clean_small(n: usize, t: usize, shifts: &[u16], block: &[u8]) -> bool

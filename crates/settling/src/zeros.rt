@@ -3,7 +3,7 @@ ghost use mathlib.Core.Path.{_≡_};
 ghost use mathlib.Core.List.{map};
 ghost use Rattle.settling.specs.Fill.{allZero, one};
 
-pub(crate) fn zero_bytes(l: &[u8]) -> bool
+pub fn zero_bytes(l: &[u8]) -> bool
     ensures { λ r. ⌜ r ≡ allZero (now (l .entry)) ⌝ }
 {
     let mut any: u8 = 0;

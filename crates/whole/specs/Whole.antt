@@ -2,7 +2,7 @@
 -- Main results: intact (no mark and no sum: the block is the codeword), summed.
 use mathlib.Core.Path.{_≡_, refl, sym, _∙_, ap}
 use mathlib.Core.Bool.{Bool, true, false, true≢false}
-use mathlib.Core.List.{List, [], _++_}
+use mathlib.Core.List.{List, _++_}
 use Prim.Native.Nat.{ℕ, _*_, _/_, _%_, _^_, _≤_, _<_}
 use native.Mathlib.Nat.{zero-div}
 use native.Mathlib.Omega.{arith}
@@ -15,7 +15,7 @@ use Rattle.code.specs.Marks.{mark, erasures}
 use Rattle.code.specs.Laws.MarksLaws.{in-erasures}
 use Rattle.tables.specs.Scan.{Lent}
 use Rattle.sums.specs.SumLaws.{Syndromes}
-use Rattle.settling.specs.Fill.{cleanOf, clean-zero}
+use Rattle.settling.specs.Fill.{allZero, allZero-at}
 use Rattle.promises.specs.Promises.{Decides}
 use Rattle.promises.specs.Building.{decides-recovered}
 use Rattle.promises.specs.declared.Recovery.{Recovery}
@@ -45,24 +45,24 @@ pub not-intact : {n t : ℕ} {shifts block marks : List ℕ} {r : Bool} → r �
 not-intact e = record { decides = λ f g. absurd (true≢false (sym f ∙ e)) }
 
 -- the bytes of the marks are 0, so no place is marked
-none-erased : (L : Layout) (marks : List ℕ) → cleanOf marks [] ≡ true → (c : ℕ) → ¬ (c ∈ erasures L marks)
+none-erased : (L : Layout) (marks : List ℕ) → allZero marks ≡ true → (c : ℕ) → ¬ (c ∈ erasures L marks)
 unfolding mark bitOf
 none-erased L marks z c i =
     let e : getD marks (c / 8) 0 / 2 ^ (c % 8) % 2 ≡ 1 = in-erasures L marks c .0 i .1 in
-    let f : 0 / 2 ^ (c % 8) % 2 ≡ 1 = rw (clean-zero marks [] z (c / 8) .0) at e in
+    let f : 0 / 2 ^ (c % 8) % 2 ≡ 1 = rw (allZero-at marks z (c / 8)) at e in
     omega (arith, zero-div (2 ^ (c % 8)))
 
 module _ {n t : ℕ} {shifts block marks : List ℕ} (m : Lent n t shifts marks) (long : length block ≡ n * t) (byte : (c : ℕ) → at block c < 256) where
-  pub intact : {sum list : List ℕ} {r : Bool} → cleanOf marks [] ≡ true → Syndromes n t shifts block sum → list ≡ sum → r ≡ cleanOf list []
+  pub intact : {sum list : List ℕ} {r : Bool} → allZero marks ≡ true → Syndromes n t shifts block sum → list ≡ sum → r ≡ allZero list
       → Intact n t shifts block marks r
   unfolding layout
   intact {sum} z s same e =
       let L = layout n t shifts in
       record {
         decides = λ f q.
-            let zero : cleanOf sum [] ≡ true = ap (λ l. cleanOf l []) (sym same) ∙ sym e ∙ f in
+            let zero : allZero sum ≡ true = ap allZero (sym same) ∙ sym e ∙ f in
             rw (q .0) (decides-recovered (record {
-              codeword = record { whole = long; symbols = byte; sums = λ r h. sym (s .each r h) ∙ clean-zero sum [] zero r .0 };
+              codeword = record { whole = long; symbols = byte; sums = λ r h. sym (s .each r h) ∙ allZero-at sum zero r };
               unmarked = λ c h out. refl;
             })
             (λ x a. ext-getD 0 x block (a .codeword .whole ∙ sym long)

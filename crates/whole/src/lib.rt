@@ -8,8 +8,8 @@ ghost use Rattle.settling.specs.Fill.{Fillable, filled};
 ghost use Rattle.tables.specs.Zeros.{Zeros};
 ghost use Rattle.whole.specs.Whole.{Summed, Intact};
 use promises::Recovery;
-use settling::fill::clean;
 use settling::fill::fill;
+use settling::zeros::zero_bytes;
 use sums::syndromes;
 use tables::marks::clear_words;
 
@@ -28,10 +28,10 @@ pub fn intact(
 {
     let rows = 2 * t;
     syndromes(n, t, shifts, block, &mut sum[..rows]);
-    if !clean(marks, &marks[0..0]) {
+    if !zero_bytes(marks) {
         return false;
     }
-    clean(&sum[..rows], &marks[0..0])
+    zero_bytes(&sum[..rows])
 }
 
 // The settled values are added to the block.

@@ -1,4 +1,4 @@
--- The row sums of the block, all 0 or not; no erasure is left of none.
+-- The row sums of the block, all 0 or not.
 use borrow.Author.Needs.{needs}
 use Rattle.tables.specs.Zeros.{front-long, zeros-room, zeros-part}
 use Rattle.sealing.specs.Reading.{sums-room, sums-same, tells-codeword}
@@ -17,29 +17,20 @@ slice-aggregate-syndromes c = front-long _ _ (zeros-room (c .before .before .bef
 syndromes-requires : tie.Need-syndromes-requires
 syndromes-requires c κs = (c .before .before .before .before .pre .0 .0, c .before .before .before .before .pre .0 .1, zeros-part (c .before .before .before .before .pre .1))
 
-slice-reshare-prefix-clean : tie.Need-slice-reshare-prefix-clean
-slice-reshare-prefix-clean c = sums-room (c .before .before .syndromes .ensures) _
+slice-reshare-prefix-zero-bytes : tie.Need-slice-reshare-prefix-zero-bytes
+slice-reshare-prefix-zero-bytes c = sums-room (c .before .before .syndromes .ensures) _
 
-slice-aggregate-clean : tie.Need-slice-aggregate-clean
-slice-aggregate-clean c = front-long _ _ (sums-room (c .before .before .before .syndromes .ensures) _)
+slice-aggregate-zero-bytes : tie.Need-slice-aggregate-zero-bytes
+slice-aggregate-zero-bytes c = front-long _ _ (sums-room (c .before .before .before .syndromes .ensures) _)
 
-sub-clean : tie.Need-sub-clean
-sub-clean c = search needs
-
-part-clean-start : tie.Need-part-clean-start
-part-clean-start c = search needs
-
-part-clean-end : tie.Need-part-clean-end
-part-clean-end c = search needs
-
-clean-requires : tie.Need-clean-requires
-clean-requires c κs = search needs
+zero-bytes-requires : tie.Need-zero-bytes-requires
+zero-bytes-requires c κs = search needs
 
 same-length : tie.Need-same-length
 same-length c = search needs
 
 returns : tie.Need-returns
-returns c = tells-codeword _ _ _ _ (c .before .before .before .before .before .before .before .before .before .before .pre .0 .1) (λ i. c .before .before .before .before .before .before .before .before .shared-slice-known2 .given i .fits) (c .before .before .before .before .before .syndromes .ensures) (sums-same (c .before .before .before .before .before .syndromes .ensures) _) (c .clean .ensures)
+returns c = tells-codeword _ _ _ _ (c .before .before .before .before .before .before .before .before .before .pre .0 .1) (λ i. c .before .before .before .before .before .before .before .shared-slice-known2 .given i .fits) (c .before .before .before .before .syndromes .ensures) (sums-same (c .before .before .before .before .syndromes .ensures) _) (c .zero-bytes .ensures)
 
 pub rows-clean-spec : {M : Type 1} → statement M
 rows-clean-spec =
@@ -49,11 +40,8 @@ rows-clean-spec =
     slice-relend-prefix-syndromes
     slice-aggregate-syndromes
     syndromes-requires
-    slice-reshare-prefix-clean
-    slice-aggregate-clean
-    sub-clean
-    part-clean-start
-    part-clean-end
-    clean-requires
+    slice-reshare-prefix-zero-bytes
+    slice-aggregate-zero-bytes
+    zero-bytes-requires
     same-length
     returns)

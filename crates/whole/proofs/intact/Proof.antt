@@ -19,47 +19,29 @@ slice-aggregate-syndromes c = front-long _ _ (zeros-room (c .before .before .bef
 syndromes-requires : tie.Need-syndromes-requires
 syndromes-requires c κs = (c .before .before .before .before .before .pre .0 .0 .sized, c .before .before .before .before .before .pre .0 .1, zeros-part (c .before .before .before .before .before .pre .1))
 
-sub-clean : tie.Need-sub-clean
-sub-clean c = search needs
-
-part-clean-start : tie.Need-part-clean-start
-part-clean-start c = search needs
-
-part-clean-end : tie.Need-part-clean-end
-part-clean-end c = search needs
-
-clean-requires : tie.Need-clean-requires
-clean-requires c κs = search needs
+zero-bytes-requires : tie.Need-zero-bytes-requires
+zero-bytes-requires c κs = search needs
 
 same-length : tie.Need-same-length
 same-length c = search needs
 
 returns : tie.Need-returns
-returns c = (summed (c .before .before .before .before .before .syndromes .ensures) _, not-intact refl)
+returns c = (summed (c .before .before .before .before .syndromes .ensures) _, not-intact refl)
 
-slice-reshare-prefix-clean : tie.Need-slice-reshare-prefix-clean
-slice-reshare-prefix-clean c = summed (c .before .before .before .before .before .syndromes .ensures) _ .room
+slice-reshare-prefix-zero-bytes : tie.Need-slice-reshare-prefix-zero-bytes
+slice-reshare-prefix-zero-bytes c = summed (c .before .before .before .before .syndromes .ensures) _ .room
 
-slice-aggregate-clean : tie.Need-slice-aggregate-clean
-slice-aggregate-clean c = front-long _ _ (summed (c .before .before .before .before .before .before .syndromes .ensures) _ .room)
+slice-aggregate-zero-bytes : tie.Need-slice-aggregate-zero-bytes
+slice-aggregate-zero-bytes c = front-long _ _ (summed (c .before .before .before .before .before .syndromes .ensures) _ .room)
 
-sub-clean-2 : tie.Need-sub-clean-2
-sub-clean-2 c = search needs
-
-part-clean-start-2 : tie.Need-part-clean-start-2
-part-clean-start-2 c = search needs
-
-part-clean-end-2 : tie.Need-part-clean-end-2
-part-clean-end-2 c = search needs
-
-clean-requires-2 : tie.Need-clean-requires-2
-clean-requires-2 c κs = search needs
+zero-bytes-requires-2 : tie.Need-zero-bytes-requires-2
+zero-bytes-requires-2 c κs = search needs
 
 same-length-2 : tie.Need-same-length-2
 same-length-2 c = search needs
 
 returns-2 : tie.Need-returns-2
-returns-2 c = (summed (c .before .before .before .before .before .before .before .before .syndromes .ensures) _, intact (c .before .before .before .before .before .before .before .before .before .before .before .before .before .before .pre .0 .0) (c .before .before .before .before .before .before .before .before .before .before .before .before .before .before .pre .0 .1) (λ i. c .before .before .before .before .before .before .before .before .before .before .before .before .shared-slice-known2 .given i .fits) (sym (c .before .before .before .before .clean .ensures) ∙ not-false _ (c .before .before .before .if1 .left)) (c .before .before .before .before .before .before .before .before .syndromes .ensures) (sums-same (c .before .before .before .before .before .before .before .before .syndromes .ensures) _) (c .clean2 .ensures))
+returns-2 c = (summed (c .before .before .before .before .before .before .syndromes .ensures) _, intact (c .before .before .before .before .before .before .before .before .before .before .before .before .pre .0 .0) (c .before .before .before .before .before .before .before .before .before .before .before .before .pre .0 .1) (λ i. c .before .before .before .before .before .before .before .before .before .before .shared-slice-known2 .given i .fits) (sym (c .before .before .before .zero-bytes .ensures) ∙ not-false _ (c .before .before .if1 .left)) (c .before .before .before .before .before .before .syndromes .ensures) (sums-same (c .before .before .before .before .before .before .syndromes .ensures) _) (c .zero-bytes2 .ensures))
 
 pub intact-spec : {M : Type 1} → statement M
 intact-spec =
@@ -69,17 +51,11 @@ intact-spec =
     slice-relend-prefix-syndromes
     slice-aggregate-syndromes
     syndromes-requires
-    sub-clean
-    part-clean-start
-    part-clean-end
-    clean-requires
+    zero-bytes-requires
     same-length
     returns
-    slice-reshare-prefix-clean
-    slice-aggregate-clean
-    sub-clean-2
-    part-clean-start-2
-    part-clean-end-2
-    clean-requires-2
+    slice-reshare-prefix-zero-bytes
+    slice-aggregate-zero-bytes
+    zero-bytes-requires-2
     same-length-2
     returns-2)
