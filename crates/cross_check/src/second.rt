@@ -1,11 +1,11 @@
 // The second implementation, by the words of document 01 and with no thought for speed. Of the library it knows only
 // the type Plan. A block is worked on as a whole, pass by pass, until nothing changes.
-pub mod cycles;
-pub mod labels;
-pub mod measures;
-pub mod messages;
-pub mod outcomes;
-pub mod peeling;
-pub mod plans;
-pub mod refusals;
-pub mod rows;
+pub(crate) mod cycles;
+pub(crate) mod labels;
+pub(crate) mod measures;
+pub(crate) mod messages;
+pub(crate) mod outcomes;
+pub(crate) mod peeling;
+pub(crate) mod plans;
+pub(crate) mod refusals;
+pub(crate) mod rows;

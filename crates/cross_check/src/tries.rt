@@ -1,6 +1,6 @@
 // The cases: the library and the second implementation on the same input, every lent buffer compared whole.
-pub mod fixed;
-pub mod given;
-pub mod lent;
-pub mod plans;
-pub mod seeded;
+pub(crate) mod fixed;
+pub(crate) mod given;
+pub(crate) mod lent;
+pub(crate) mod plans;
+pub(crate) mod seeded;

@@ -1,5 +1,7 @@
 // 01's ring, here a cycle: an even number of distinct places, sharing a top row and a bottom row in turn, the last and the
 // first a bottom row; no row twice; from its lowest place; marked places only.
+use crate::buffers::Bytes;
+use crate::buffers::Words;
 use crate::buffers::bit;
 use crate::buffers::get8;
 use crate::buffers::get16;
@@ -8,54 +10,47 @@ use crate::buffers::zeros16;
 use crate::numbers::plus;
 use crate::numbers::remainder;
 use crate::second::rows::bottom;
+use crate::second::rows::places;
+use crate::second::rows::rows;
 use crate::second::rows::top;
+use plan::Plan;
 
 // The row by which the i-th place of the list goes on.
-fn row_of(t: usize, shifts: &[u16], i: usize, c: usize) -> usize {
+fn row_of(plan: Plan, i: usize, c: usize) -> usize {
     if i % 2 == 0 {
-        return top(t, c);
+        return top(plan, c);
     }
-    bottom(t, shifts, c)
+    bottom(plan, c)
 }
 
-// Whether the i-th place is erased, new, and not below the first.
-fn place_fits(places: usize, marks: &[u8], list: &[u16], i: usize, met: &mut [u8]) -> bool {
-    let c = get16(list, i);
-    if places <= c {
-        return false;
-    }
-    if bit(marks, c) == 0 {
-        return false;
-    }
-    if c < get16(list, 0) {
-        return false;
-    }
-    if get8(&met[..], c) != 0 {
+// Whether a number is met for the first time.
+fn is_new(c: usize, met: &mut Bytes) -> bool {
+    if get8(&*met, c) != 0 {
         return false;
     }
     put8(met, c, 1);
     true
 }
 
-// Whether the i-th place and the next one share their row, and it was not passed before.
-fn row_fits(t: usize, shifts: &[u16], list: &[u16], z: usize, i: usize, passed: &mut [u8]) -> bool {
-    let r = row_of(t, shifts, i, get16(list, i));
-    let next = get16(list, remainder(plus(i, 1), z));
-    if row_of(t, shifts, i, next) != r {
+// Whether a place of the list is erased, and not below the first.
+fn place_fits(plan: Plan, marks: &Bytes, first: usize, c: usize) -> bool {
+    if places(plan) <= c {
         return false;
     }
-    if get8(&passed[..], r) != 0 {
+    if bit(marks, c) == 0 {
         return false;
     }
-    put8(passed, r, 1);
-    true
+    first <= c
 }
 
-fn places_fit(places: usize, marks: &[u8], list: &[u16], z: usize) -> bool {
+fn places_fit(plan: Plan, marks: &Bytes, list: &Words, z: usize) -> bool {
     let mut met = [0u8; 32784];
     let mut i: usize = 0;
     while i < z {
-        if !place_fits(places, marks, list, i, &mut met[..]) {
+        if !place_fits(plan, marks, get16(list, 0), get16(list, i)) {
+            return false;
+        }
+        if !is_new(get16(list, i), &mut met) {
             return false;
         }
         i += 1;
@@ -63,11 +58,20 @@ fn places_fit(places: usize, marks: &[u8], list: &[u16], z: usize) -> bool {
     true
 }
 
-fn rows_fit(t: usize, shifts: &[u16], list: &[u16], z: usize) -> bool {
-    let mut passed = [0u8; 4096];
+// Whether the i-th place and the next one share the row by which the list goes on.
+fn row_fits(plan: Plan, list: &Words, z: usize, i: usize) -> bool {
+    let next = get16(list, remainder(plus(i, 1), z));
+    row_of(plan, i, get16(list, i)) == row_of(plan, i, next)
+}
+
+fn rows_fit(plan: Plan, list: &Words, z: usize) -> bool {
+    let mut passed = [0u8; 32784];
     let mut i: usize = 0;
     while i < z {
-        if !row_fits(t, shifts, list, z, i, &mut passed[..]) {
+        if !row_fits(plan, list, z, i) {
+            return false;
+        }
+        if !is_new(row_of(plan, i, get16(list, i)), &mut passed) {
             return false;
         }
         i += 1;
@@ -76,28 +80,21 @@ fn rows_fit(t: usize, shifts: &[u16], list: &[u16], z: usize) -> bool {
 }
 
 // Whether the list is a cycle of z erased places, then zeros.
-pub fn is_cycle(
-    places: usize,
-    t: usize,
-    shifts: &[u16],
-    marks: &[u8],
-    list: &[u16],
-    z: usize,
-) -> bool {
+pub(crate) fn is_cycle(plan: Plan, marks: &Bytes, list: &Words, z: usize) -> bool {
     if z < 2 {
         return false;
     }
     if z % 2 != 0 {
         return false;
     }
-    if plus(t, t) < z {
+    if rows(plan) < z {
         return false;
     }
-    if !places_fit(places, marks, list, z) {
+    if !places_fit(plan, marks, list, z) {
         return false;
     }
-    if !rows_fit(t, shifts, list, z) {
+    if !rows_fit(plan, list, z) {
         return false;
     }
-    zeros16(list, z, plus(t, t))
+    zeros16(list, z, rows(plan))
 }

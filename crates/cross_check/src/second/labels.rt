@@ -1,5 +1,7 @@
 // 01: two rows are joined if a chain of marked places leads from one to the other. A row's label becomes the lowest row
 // that it is joined with, by passes over all erased places, up and down in turn, until nothing changes.
+use crate::buffers::Bytes;
+use crate::buffers::Words;
 use crate::buffers::clear16;
 use crate::buffers::flip16;
 use crate::buffers::get8;
@@ -7,66 +9,64 @@ use crate::buffers::get16;
 use crate::buffers::put16;
 use crate::numbers::least;
 use crate::numbers::plus;
-use crate::numbers::times;
 use crate::numbers::wide8;
 use crate::second::peeling::in_turn;
 use crate::second::peeling::look;
 use crate::second::rows::bottom;
+use crate::second::rows::places;
+use crate::second::rows::rows;
 use crate::second::rows::top;
+use plan::Plan;
 
 // Each of the first k rows is a component by itself.
-pub fn alone(k: usize, label: &mut [u16]) {
+pub(crate) fn alone(k: usize, label: &mut Words) {
     let mut r: usize = 0;
     while r < k {
-        put16(&mut label[..], r, r);
+        put16(&mut *label, r, r);
         r += 1;
     }
 }
 
-// 1 where the place changes a label.
-fn join(t: usize, shifts: &[u16], erased: &[u8], c: usize, label: &mut [u16]) -> usize {
-    if get8(erased, c) == 0 {
-        return 0;
-    }
-    let a = top(t, c);
-    let b = bottom(t, shifts, c);
-    let x = get16(&label[..], a);
-    let y = get16(&label[..], b);
+// 1 where two rows have different labels, which then become the lower one.
+fn join_rows(a: usize, b: usize, label: &mut Words) -> usize {
+    let x = get16(&*label, a);
+    let y = get16(&*label, b);
     if x == y {
         return 0;
     }
-    put16(&mut label[..], a, least(x, y));
+    put16(&mut *label, a, least(x, y));
     put16(label, b, least(x, y));
     1
 }
 
+// 1 where the place changes a label.
+fn join(plan: Plan, erased: &Bytes, c: usize, label: &mut Words) -> usize {
+    if get8(erased, c) == 0 {
+        return 0;
+    }
+    join_rows(top(plan, c), bottom(plan, c), label)
+}
+
 // How many labels a pass changes.
-fn pass(
-    n: usize,
-    t: usize,
-    shifts: &[u16],
-    is_down: bool,
-    erased: &[u8],
-    label: &mut [u16],
-) -> usize {
-    let places = times(n, t);
+fn pass(plan: Plan, is_down: bool, erased: &Bytes, label: &mut Words) -> usize {
+    let end = places(plan);
     let mut joined: usize = 0;
     let mut i: usize = 0;
-    while i < places {
-        let c = in_turn(is_down, places, i);
-        joined = plus(joined, join(t, shifts, erased, c, &mut label[..]));
+    while i < end {
+        let c = in_turn(is_down, end, i);
+        joined = plus(joined, join(plan, erased, c, &mut *label));
         i += 1;
     }
     joined
 }
 
 // The labels of all rows. No row is further than 2t steps from the lowest of its component.
-pub fn labels(n: usize, t: usize, shifts: &[u16], erased: &[u8], label: &mut [u16]) {
-    alone(plus(t, t), &mut label[..]);
-    let end = plus(plus(t, t), 1);
+pub(crate) fn labels(plan: Plan, erased: &Bytes, label: &mut Words) {
+    alone(rows(plan), &mut *label);
+    let end = plus(rows(plan), 1);
     let mut i: usize = 0;
     while i < end {
-        if pass(n, t, shifts, i % 2 == 1, erased, &mut label[..]) == 0 {
+        if pass(plan, i % 2 == 1, erased, &mut *label) == 0 {
             return;
         }
         i += 1;
@@ -74,28 +74,20 @@ pub fn labels(n: usize, t: usize, shifts: &[u16], erased: &[u8], label: &mut [u1
 }
 
 // The sum of each component stands at its lowest row.
-pub fn totals(
-    n: usize,
-    t: usize,
-    shifts: &[u16],
-    block: &[u8],
-    erased: &[u8],
-    label: &[u16],
-    total: &mut [u16],
-) {
-    let end = plus(t, t);
-    clear16(&mut total[..], 0, end);
+pub(crate) fn totals(plan: Plan, block: &Bytes, erased: &Bytes, label: &Words, total: &mut Words) {
+    let end = rows(plan);
+    clear16(&mut *total, end);
     let mut r: usize = 0;
     while r < end {
-        let found = look(n, t, shifts, block, erased, r);
-        flip16(&mut total[..], get16(label, r), wide8(found.sum));
+        let found = look(plan, block, erased, r);
+        flip16(&mut *total, get16(label, r), wide8(found.sum));
         r += 1;
     }
 }
 
 // The lowest row whose component does not add up to 0; 2t where there is none.
-pub fn first_crossed(t: usize, total: &[u16]) -> usize {
-    let end = plus(t, t);
+pub(crate) fn first_crossed(plan: Plan, total: &Words) -> usize {
+    let end = rows(plan);
     let mut r: usize = 0;
     while r < end {
         if get16(total, r) != 0 {
@@ -107,7 +99,7 @@ pub fn first_crossed(t: usize, total: &[u16]) -> usize {
 }
 
 // The next free entry of the list, after row r.
-fn list_row(label: &[u16], r: usize, lowest: usize, z: usize, list: &mut [u16]) -> usize {
+fn list_row(label: &Words, r: usize, lowest: usize, z: usize, list: &mut Words) -> usize {
     if get16(label, r) != lowest {
         return z;
     }
@@ -116,12 +108,12 @@ fn list_row(label: &[u16], r: usize, lowest: usize, z: usize, list: &mut [u16]) 
 }
 
 // Writes the rows of a component, rising, and answers how many there are.
-pub fn list_rows(t: usize, label: &[u16], lowest: usize, list: &mut [u16]) -> usize {
-    let end = plus(t, t);
+pub(crate) fn list_rows(plan: Plan, label: &Words, lowest: usize, list: &mut Words) -> usize {
+    let end = rows(plan);
     let mut z: usize = 0;
     let mut r: usize = 0;
     while r < end {
-        z = list_row(label, r, lowest, z, &mut list[..]);
+        z = list_row(label, r, lowest, z, &mut *list);
         r += 1;
     }
     z

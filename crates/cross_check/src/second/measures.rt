@@ -1,6 +1,5 @@
 // The four figures of 01, over all pairs of sections. And the distance of a small plan by trying every word of bits:
 // each bit of the bytes is a codeword of its own.
-use crate::buffers::get16;
 use crate::numbers::least;
 use crate::numbers::minus;
 use crate::numbers::plus;
@@ -10,7 +9,11 @@ use crate::numbers::times;
 use crate::numbers::wide32;
 use crate::second::messages::count;
 use crate::second::rows::bottom;
+use crate::second::rows::places;
+use crate::second::rows::rows;
+use crate::second::rows::shift;
 use crate::second::rows::top;
+use plan::Plan;
 
 // The greatest d that divides a and t; of 0 and t it is t.
 fn greatest(a: usize, t: usize) -> usize {
@@ -41,62 +44,63 @@ fn between(a: usize, b: usize) -> usize {
 }
 
 // 2t / gcd(p_i - p_j, t) - 1
-fn figure(t: usize, shifts: &[u16], i: usize, j: usize) -> usize {
-    let g = greatest(between(get16(shifts, i), get16(shifts, j)), t);
-    minus(quotient(plus(t, t), g), 1)
+fn figure(plan: Plan, i: usize, j: usize) -> usize {
+    let g = greatest(between(shift(plan, i), shift(plan, j)), plan.t);
+    minus(quotient(rows(plan), g), 1)
 }
 
 // The least figure so far, with the pair of number x.
-fn with_pair(n: usize, t: usize, shifts: &[u16], x: usize, found: usize) -> usize {
-    let i = quotient(x, n);
-    let j = remainder(x, n);
+fn with_pair(plan: Plan, x: usize, found: usize) -> usize {
+    let i = quotient(x, plan.n);
+    let j = remainder(x, plan.n);
     if j <= i {
         return found;
     }
-    least(found, figure(t, shifts, i, j))
+    least(found, figure(plan, i, j))
 }
 
-pub fn pair(n: usize, t: usize, shifts: &[u16]) -> usize {
-    let end = times(n, n);
-    let mut found = plus(t, t);
+pub(crate) fn pair(plan: Plan) -> usize {
+    let end = times(plan.n, plan.n);
+    let mut found = rows(plan);
     let mut x: usize = 0;
     while x < end {
-        found = with_pair(n, t, shifts, x, found);
+        found = with_pair(plan, x, found);
         x += 1;
     }
     found
 }
 
-pub fn neighbour(n: usize, t: usize, shifts: &[u16]) -> usize {
-    let mut found = plus(t, t);
+pub(crate) fn neighbour(plan: Plan) -> usize {
+    let n = plan.n;
+    let mut found = rows(plan);
     let mut j: usize = 1;
     while j < n {
-        found = least(found, figure(t, shifts, minus(j, 1), j));
+        found = least(found, figure(plan, minus(j, 1), j));
         j += 1;
     }
     found
 }
 
-pub fn parity(n: usize, t: usize, shifts: &[u16]) -> usize {
-    let places = times(n, t);
-    minus(places, count(n, t, shifts))
+pub(crate) fn parity(plan: Plan) -> usize {
+    minus(places(plan), count(plan))
 }
 
 // The difference of the pair of number x; a number of its own, from t on, where it is no pair of two sections.
-fn difference(n: usize, t: usize, shifts: &[u16], x: usize) -> usize {
-    let i = quotient(x, n);
-    let j = remainder(x, n);
+fn difference(plan: Plan, x: usize) -> usize {
+    let t = plan.t;
+    let i = quotient(x, plan.n);
+    let j = remainder(x, plan.n);
     if i == j {
         return plus(t, x);
     }
-    remainder(minus(plus(get16(shifts, i), t), get16(shifts, j)), t)
+    remainder(minus(plus(shift(plan, i), t), shift(plan, j)), t)
 }
 
-fn meets_before(n: usize, t: usize, shifts: &[u16], x: usize) -> bool {
-    let d = difference(n, t, shifts, x);
+fn meets_before(plan: Plan, x: usize) -> bool {
+    let d = difference(plan, x);
     let mut y: usize = 0;
     while y < x {
-        if difference(n, t, shifts, y) == d {
+        if difference(plan, y) == d {
             return true;
         }
         y += 1;
@@ -105,11 +109,11 @@ fn meets_before(n: usize, t: usize, shifts: &[u16], x: usize) -> bool {
 }
 
 // Whether all differences p_i - p_j mod t, i and j distinct, are distinct.
-fn is_ruler(n: usize, t: usize, shifts: &[u16]) -> bool {
-    let end = times(n, n);
+fn is_ruler(plan: Plan) -> bool {
+    let end = times(plan.n, plan.n);
     let mut x: usize = 0;
     while x < end {
-        if meets_before(n, t, shifts, x) {
+        if meets_before(plan, x) {
             return false;
         }
         x += 1;
@@ -117,10 +121,10 @@ fn is_ruler(n: usize, t: usize, shifts: &[u16]) -> bool {
     true
 }
 
-fn equal_before(shifts: &[u16], i: usize) -> bool {
+fn equal_before(plan: Plan, i: usize) -> bool {
     let mut j: usize = 0;
     while j < i {
-        if get16(shifts, i) == get16(shifts, j) {
+        if shift(plan, i) == shift(plan, j) {
             return true;
         }
         j += 1;
@@ -128,10 +132,11 @@ fn equal_before(shifts: &[u16], i: usize) -> bool {
     false
 }
 
-fn has_equal(n: usize, shifts: &[u16]) -> bool {
+fn has_equal(plan: Plan) -> bool {
+    let n = plan.n;
     let mut i: usize = 0;
     while i < n {
-        if equal_before(shifts, i) {
+        if equal_before(plan, i) {
             return true;
         }
         i += 1;
@@ -139,14 +144,14 @@ fn has_equal(n: usize, shifts: &[u16]) -> bool {
     false
 }
 
-pub fn distance(n: usize, t: usize, shifts: &[u16]) -> usize {
-    if n == 2 {
-        return plus(pair(n, t, shifts), 1);
+pub(crate) fn distance(plan: Plan) -> usize {
+    if plan.n == 2 {
+        return plus(pair(plan), 1);
     }
-    if has_equal(n, shifts) {
+    if has_equal(plan) {
         return 2;
     }
-    if is_ruler(n, t, shifts) {
+    if is_ruler(plan) {
         return 6;
     }
     4
@@ -160,32 +165,33 @@ fn bit_of(r: usize) -> u64 {
 }
 
 // The rows that do not sum to 0, as bits, for the word whose symbol at place c is bit c.
-fn syndrome(places: usize, t: usize, shifts: &[u16], word: u64) -> u64 {
-    let mut rows: u64 = 0;
+fn syndrome(plan: Plan, word: u64) -> u64 {
+    let end = places(plan);
+    let mut sums: u64 = 0;
     let mut c: usize = 0;
-    while c < places {
+    while c < end {
         if word & bit_of(c) != 0 {
-            rows = rows ^ bit_of(top(t, c)) ^ bit_of(bottom(t, shifts, c));
+            sums = sums ^ bit_of(top(plan, c)) ^ bit_of(bottom(plan, c));
         }
         c += 1;
     }
-    rows
+    sums
 }
 
-fn weighed(places: usize, t: usize, shifts: &[u16], word: u64, found: usize) -> usize {
-    if syndrome(places, t, shifts, word) != 0 {
+fn weighed(plan: Plan, word: u64, found: usize) -> usize {
+    if syndrome(plan, word) != 0 {
         return found;
     }
     least(found, wide32(u64::count_ones(word)))
 }
 
 // The least weight over all nonzero words of bits. For plans of at most 16 places and 64 rows.
-pub fn least_weight(places: usize, t: usize, shifts: &[u16]) -> usize {
-    let end = bit_of(places);
-    let mut found = plus(places, 1);
+pub(crate) fn least_weight(plan: Plan) -> usize {
+    let end = bit_of(places(plan));
+    let mut found = plus(places(plan), 1);
     let mut word: u64 = 1;
     while word < end {
-        found = weighed(places, t, shifts, word, found);
+        found = weighed(plan, word, found);
         word += 1;
     }
     found

@@ -1,87 +1,73 @@
 // Recovery by 01: the fixed point settles every place, or the components decide between crossed and loose.
+use crate::buffers::Bytes;
+use crate::buffers::Words;
 use crate::buffers::bit;
 use crate::buffers::clear16;
 use crate::buffers::copy8;
 use crate::buffers::put8;
-use crate::numbers::plus;
-use crate::numbers::times;
 use crate::second::labels::first_crossed;
 use crate::second::labels::labels;
 use crate::second::labels::list_rows;
 use crate::second::labels::totals;
 use crate::second::peeling::is_settled;
 use crate::second::peeling::settle;
+use crate::second::rows::places;
+use crate::second::rows::rows;
+use plan::Plan;
 
 // The number of 01 and the count of the list; of a loose block the list is left to the other implementation.
-pub struct Outcome {
-    pub number: usize,
-    pub count: usize,
+pub(crate) struct Outcome {
+    pub(crate) number: usize,
+    pub(crate) count: usize,
 }
 
 // A byte for each place: 1 where it is erased.
-fn spread_bits(places: usize, marks: &[u8], erased: &mut [u8]) {
+fn spread_bits(end: usize, marks: &Bytes, erased: &mut Bytes) {
     let mut c: usize = 0;
-    while c < places {
-        put8(&mut erased[..], c, bit(marks, c));
+    while c < end {
+        put8(&mut *erased, c, bit(marks, c));
         c += 1;
     }
 }
 
-// Whether the passes settle all that is erased and every row then sums to 0. The block is written only then.
-fn settles(n: usize, t: usize, shifts: &[u16], marks: &[u8], block: &mut [u8]) -> bool {
-    let places = times(n, t);
-    let mut work = [0u8; 32784];
-    let mut erased = [0u8; 32784];
-    copy8(places, &block[..], &mut work[..]);
-    spread_bits(places, marks, &mut erased[..]);
-    settle(n, t, shifts, &mut work[..], &mut erased[..]);
-    if !is_settled(n, t, shifts, &work[..], &erased[..]) {
-        return false;
-    }
-    copy8(places, &work[..], block);
-    true
+// Settles what the passes can of a copy of the block, and answers whether that is all and every row then sums to 0.
+fn settles(plan: Plan, erased: &Bytes, work: &mut Bytes) -> bool {
+    let mut left = [0u8; 32784];
+    copy8(places(plan), erased, &mut left);
+    settle(plan, &mut *work, &mut left);
+    is_settled(plan, &*work, &left)
 }
 
 // Crossed with its list, or loose.
-fn explain(
-    n: usize,
-    t: usize,
-    shifts: &[u16],
-    marks: &[u8],
-    block: &[u8],
-    list: &mut [u16],
-) -> Outcome {
-    let mut erased = [0u8; 32784];
-    let mut label = [0u16; 4096];
-    let mut total = [0u16; 4096];
-    spread_bits(times(n, t), marks, &mut erased[..]);
-    labels(n, t, shifts, &erased[..], &mut label[..]);
-    totals(n, t, shifts, block, &erased[..], &label[..], &mut total[..]);
-    let lowest = first_crossed(t, &total[..]);
-    if plus(t, t) <= lowest {
+fn explain(plan: Plan, erased: &Bytes, block: &Bytes, list: &mut Words) -> Outcome {
+    let mut label = [0u16; 4112];
+    let mut total = [0u16; 4112];
+    labels(plan, erased, &mut label);
+    totals(plan, block, erased, &label, &mut total);
+    let lowest = first_crossed(plan, &total);
+    if rows(plan) <= lowest {
         return Outcome {
             number: 6,
             count: 0,
         };
     }
-    let count = list_rows(t, &label[..], lowest, list);
+    let count = list_rows(plan, &label, lowest, list);
     Outcome { number: 5, count }
 }
 
-pub fn recover(
-    n: usize,
-    t: usize,
-    shifts: &[u16],
-    marks: &[u8],
-    block: &mut [u8],
-    list: &mut [u16],
-) -> Outcome {
-    clear16(&mut list[..], 0, plus(t, t));
-    if settles(n, t, shifts, marks, &mut block[..]) {
+// The block is written only where it is recovered.
+pub(crate) fn recover(plan: Plan, marks: &Bytes, block: &mut Bytes, list: &mut Words) -> Outcome {
+    let mut erased = [0u8; 32784];
+    let mut work = [0u8; 32784];
+    spread_bits(places(plan), marks, &mut erased);
+    copy8(places(plan), &*block, &mut work);
+    clear16(&mut *list, rows(plan));
+    if settles(plan, &erased, &mut work) {
+        copy8(places(plan), &work, block);
         return Outcome {
             number: 0,
             count: 0,
         };
     }
-    explain(n, t, shifts, marks, &block[..], list)
+    explain(plan, &erased, &*block, list)
 }

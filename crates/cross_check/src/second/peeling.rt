@@ -1,19 +1,22 @@
 // The whole-block fixed point: passes over all rows, up and down in turn, in which a row with exactly one erased place
 // settles it. Each row is looked at anew every time.
+use crate::buffers::Bytes;
 use crate::buffers::get8;
 use crate::buffers::put8;
 use crate::numbers::minus;
 use crate::numbers::plus;
 use crate::second::rows::place_on;
+use crate::second::rows::rows;
+use plan::Plan;
 
 // What a row shows: the number of its erased places, the last of them, and the sum of its other symbols.
-pub struct View {
-    pub erased: usize,
-    pub last: usize,
-    pub sum: u8,
+pub(crate) struct View {
+    pub(crate) erased: usize,
+    pub(crate) last: usize,
+    pub(crate) sum: u8,
 }
 
-fn with_place(found: View, c: usize, block: &[u8], erased: &[u8]) -> View {
+fn with_place(found: View, c: usize, block: &Bytes, erased: &Bytes) -> View {
     if get8(erased, c) != 0 {
         return View {
             erased: plus(found.erased, 1),
@@ -28,7 +31,8 @@ fn with_place(found: View, c: usize, block: &[u8], erased: &[u8]) -> View {
     }
 }
 
-pub fn look(n: usize, t: usize, shifts: &[u16], block: &[u8], erased: &[u8], r: usize) -> View {
+pub(crate) fn look(plan: Plan, block: &Bytes, erased: &Bytes, r: usize) -> View {
+    let n = plan.n;
     let mut found = View {
         erased: 0,
         last: 0,
@@ -36,22 +40,15 @@ pub fn look(n: usize, t: usize, shifts: &[u16], block: &[u8], erased: &[u8], r: 
     };
     let mut j: usize = 0;
     while j < n {
-        found = with_place(found, place_on(t, shifts, r, j), block, erased);
+        found = with_place(found, place_on(plan, r, j), block, erased);
         j += 1;
     }
     found
 }
 
 // 1 where the row settles a place.
-fn settle_row(
-    n: usize,
-    t: usize,
-    shifts: &[u16],
-    r: usize,
-    block: &mut [u8],
-    erased: &mut [u8],
-) -> usize {
-    let found = look(n, t, shifts, &block[..], &erased[..], r);
+fn settle_row(plan: Plan, r: usize, block: &mut Bytes, erased: &mut Bytes) -> usize {
+    let found = look(plan, &*block, &*erased, r);
     if found.erased != 1 {
         return 0;
     }
@@ -61,7 +58,7 @@ fn settle_row(
 }
 
 // The i-th of k numbers, from below or from above.
-pub fn in_turn(is_down: bool, k: usize, i: usize) -> usize {
+pub(crate) fn in_turn(is_down: bool, k: usize, i: usize) -> usize {
     if is_down {
         return minus(minus(k, i), 1);
     }
@@ -69,34 +66,24 @@ pub fn in_turn(is_down: bool, k: usize, i: usize) -> usize {
 }
 
 // How many places a pass settles.
-fn pass(
-    n: usize,
-    t: usize,
-    shifts: &[u16],
-    is_down: bool,
-    block: &mut [u8],
-    erased: &mut [u8],
-) -> usize {
-    let end = plus(t, t);
+fn pass(plan: Plan, is_down: bool, block: &mut Bytes, erased: &mut Bytes) -> usize {
+    let end = rows(plan);
     let mut settled: usize = 0;
     let mut i: usize = 0;
     while i < end {
         let r = in_turn(is_down, end, i);
-        settled = plus(
-            settled,
-            settle_row(n, t, shifts, r, &mut block[..], &mut erased[..]),
-        );
+        settled = plus(settled, settle_row(plan, r, &mut *block, &mut *erased));
         i += 1;
     }
     settled
 }
 
 // Passes until one settles nothing. Every other settles a place, and no more than 2t can be settled.
-pub fn settle(n: usize, t: usize, shifts: &[u16], block: &mut [u8], erased: &mut [u8]) {
-    let end = plus(plus(t, t), 1);
+pub(crate) fn settle(plan: Plan, block: &mut Bytes, erased: &mut Bytes) {
+    let end = plus(rows(plan), 1);
     let mut i: usize = 0;
     while i < end {
-        if pass(n, t, shifts, i % 2 == 1, &mut block[..], &mut erased[..]) == 0 {
+        if pass(plan, i % 2 == 1, &mut *block, &mut *erased) == 0 {
             return;
         }
         i += 1;
@@ -104,11 +91,11 @@ pub fn settle(n: usize, t: usize, shifts: &[u16], block: &mut [u8], erased: &mut
 }
 
 // Whether no place is erased and every row sums to 0.
-pub fn is_settled(n: usize, t: usize, shifts: &[u16], block: &[u8], erased: &[u8]) -> bool {
-    let end = plus(t, t);
+pub(crate) fn is_settled(plan: Plan, block: &Bytes, erased: &Bytes) -> bool {
+    let end = rows(plan);
     let mut r: usize = 0;
     while r < end {
-        let found = look(n, t, shifts, block, erased, r);
+        let found = look(plan, block, erased, r);
         if found.erased != 0 {
             return false;
         }

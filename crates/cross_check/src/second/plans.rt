@@ -1,11 +1,19 @@
-// The families of plans by 01. Each writes the shifts and answers with the number of 01.
-use crate::buffers::get16;
-use crate::buffers::put16;
+// The making of plans by 01, each with the number of 01; a plan that is refused is of zeros only.
+use crate::numbers::low16;
 use crate::numbers::minus;
 use crate::numbers::plus;
 use crate::numbers::remainder;
 use crate::numbers::times;
+use crate::numbers::wide16;
+use crate::second::refusals::of_plan;
 use crate::second::refusals::of_size;
+use crate::second::rows::shift;
+use plan::Plan;
+
+pub(crate) struct Making {
+    pub(crate) number: usize,
+    pub(crate) plan: Plan,
+}
 
 // Table I of 002 as 01 has it: for each n from 3 to 14 its t, then its shifts.
 const RULERS: [u16; 114] = [
@@ -125,23 +133,69 @@ const RULERS: [u16; 114] = [
     175,
 ];
 
-fn straight_shifts(n: usize, shifts: &mut [u16]) {
-    let mut j: usize = 0;
-    while j < n {
-        put16(&mut shifts[..], j, j);
-        j += 1;
-    }
+fn refused(number: usize) -> Making {
+    let shifts = [0u16; 32];
+    let plan = Plan { n: 0, t: 0, shifts };
+    Making { number, plan }
 }
 
-pub fn straight(n: usize, t: usize, shifts: &mut [u16]) -> usize {
+fn made(n: usize, t: usize, shifts: [u16; 32]) -> Making {
+    let plan = Plan { n, t, shifts };
+    Making { number: 0, plan }
+}
+
+// A shift of one of n sections; past them 0.
+fn within(n: usize, j: usize, p: usize) -> u16 {
+    if j < n {
+        return low16(p);
+    }
+    0
+}
+
+// With some of the shifts lent: refused where these are not n.
+pub(crate) fn of(plan: Plan, lent: usize) -> Making {
+    let number = of_plan(plan);
+    if number == 1 {
+        return refused(1);
+    }
+    if lent != plan.n {
+        return refused(2);
+    }
+    if number != 0 {
+        return refused(2);
+    }
+    made(plan.n, plan.t, first_shifts(plan))
+}
+
+// The first n shifts, then zeros.
+fn first_shifts(plan: Plan) -> [u16; 32] {
+    let mut shifts = [0u16; 32];
+    let mut j: usize = 0;
+    while j < 32 {
+        shifts[j] = within(plan.n, j, shift(plan, j));
+        j += 1;
+    }
+    shifts
+}
+
+fn straight_shifts(n: usize) -> [u16; 32] {
+    let mut shifts = [0u16; 32];
+    let mut j: usize = 0;
+    while j < 32 {
+        shifts[j] = within(n, j, j);
+        j += 1;
+    }
+    shifts
+}
+
+pub(crate) fn straight(n: usize, t: usize) -> Making {
     if of_size(n, t) != 0 {
-        return 1;
+        return refused(1);
     }
     if t < n {
-        return 10;
+        return refused(10);
     }
-    straight_shifts(n, shifts);
-    0
+    made(n, t, straight_shifts(n))
 }
 
 fn divides(d: usize, t: usize, q: usize) -> bool {
@@ -163,37 +217,51 @@ fn have_factor(t: usize, q: usize) -> bool {
     false
 }
 
-fn power_shifts(n: usize, t: usize, q: usize, shifts: &mut [u16]) {
+fn power_shifts(n: usize, t: usize, q: usize) -> [u16; 32] {
     let base = remainder(q, t);
+    let mut shifts = [0u16; 32];
     let mut p = remainder(1, t);
     let mut j: usize = 0;
-    while j < n {
-        put16(&mut shifts[..], j, p);
+    while j < 32 {
+        shifts[j] = within(n, j, p);
         p = remainder(times(p, base), t);
         j += 1;
     }
+    shifts
 }
 
-pub fn powers(n: usize, t: usize, q: usize, shifts: &mut [u16]) -> usize {
-    if of_size(n, t) != 0 {
-        return 1;
-    }
-    if n < 3 {
-        return 10;
-    }
-    if t < n {
-        return 10;
-    }
+// Whether q is above 1, and neither q nor q - 1 has a factor in common with t.
+fn is_base(t: usize, q: usize) -> bool {
     if q < 2 {
-        return 10;
+        return false;
     }
     if have_factor(t, q) {
-        return 10;
+        return false;
     }
-    if have_factor(t, minus(q, 1)) {
-        return 10;
+    !have_factor(t, minus(q, 1))
+}
+
+pub(crate) fn powers(n: usize, t: usize, q: usize) -> Making {
+    if of_size(n, t) != 0 {
+        return refused(1);
     }
-    power_shifts(n, t, q, shifts);
+    if n < 3 {
+        return refused(10);
+    }
+    if t < n {
+        return refused(10);
+    }
+    if !is_base(t, q) {
+        return refused(10);
+    }
+    made(n, t, power_shifts(n, t, q))
+}
+
+fn ruler_entry(i: usize) -> usize {
+    let table = RULERS;
+    if i < 114 {
+        return wide16(table[i]);
+    }
     0
 }
 
@@ -208,34 +276,29 @@ fn ruler_at(n: usize) -> usize {
     at
 }
 
-pub fn ruler_t(n: usize) -> usize {
-    let table = RULERS;
-    get16(&table[..], ruler_at(n))
-}
-
-fn ruler_shifts(n: usize, shifts: &mut [u16]) {
-    let table = RULERS;
+fn ruler_shifts(n: usize) -> [u16; 32] {
     let at = plus(ruler_at(n), 1);
+    let mut shifts = [0u16; 32];
     let mut j: usize = 0;
-    while j < n {
-        put16(&mut shifts[..], j, get16(&table[..], plus(at, j)));
+    while j < 32 {
+        shifts[j] = within(n, j, ruler_entry(plus(at, j)));
         j += 1;
     }
+    shifts
 }
 
-pub fn ruler(n: usize, shifts: &mut [u16]) -> usize {
+pub(crate) fn ruler(n: usize) -> Making {
     if n < 2 {
-        return 1;
+        return refused(1);
     }
     if 32 < n {
-        return 1;
+        return refused(1);
     }
     if n < 3 {
-        return 10;
+        return refused(10);
     }
     if 14 < n {
-        return 10;
+        return refused(10);
     }
-    ruler_shifts(n, shifts);
-    0
+    made(n, ruler_entry(ruler_at(n)), ruler_shifts(n))
 }

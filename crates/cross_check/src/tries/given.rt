@@ -1,23 +1,24 @@
 // What a seed gives: plans, blocks, marks, lengths, and faults in each.
+use crate::buffers::Bytes;
 use crate::buffers::bit;
 use crate::buffers::get8;
-use crate::buffers::get16;
 use crate::buffers::put8;
-use crate::buffers::put16;
 use crate::buffers::set_bit;
 use crate::numbers::least;
 use crate::numbers::low8;
+use crate::numbers::low16;
 use crate::numbers::minus;
 use crate::numbers::plus;
 use crate::numbers::quotient;
 use crate::numbers::remainder;
 use crate::numbers::times;
 use crate::random::fill8;
-use crate::random::fill16;
+use crate::random::next;
 use crate::random::pick;
 use crate::random::seeded;
 use crate::second::messages;
 use crate::second::refusals;
+use crate::second::rows;
 use crate::tries::lent::Lens;
 use plan::Plan;
 
@@ -35,25 +36,28 @@ fn shaped(style: usize, n: usize, t: usize, j: usize, p: usize) -> usize {
     }
 }
 
-fn shape(style: usize, n: usize, t: usize, shifts: &mut [u16]) {
+// The shifts of n sections, each of a random number below t.
+fn shapes(style: usize, n: usize, t: usize, seed: u64) -> [u16; 32] {
+    let mut shifts = [0u16; 32];
+    let mut x = seed | 1;
     let mut j: usize = 0;
     while j < 32 {
-        let p = get16(&shifts[..], j);
-        put16(&mut shifts[..], j, shaped(style, n, t, j, p));
+        x = next(x);
+        let p = remainder((x >> 24) as usize, t);
+        shifts[j] = low16(shaped(style, n, t, j, p));
         j += 1;
     }
+    shifts
 }
 
 // A plan of n sections of t symbols.
-pub fn plan_of(n: usize, t: usize, style: usize, seed: u64) -> Plan {
-    let mut shifts = [0u16; 32];
-    fill16(&mut shifts[..], 32, t, seed);
-    shape(style, n, t, &mut shifts[..]);
+pub(crate) fn plan_of(n: usize, t: usize, style: usize, seed: u64) -> Plan {
+    let shifts = shapes(style, n, t, seed);
     Plan { n, t, shifts }
 }
 
 // A plan of at most so many sections and symbols.
-pub fn plan(most_n: usize, most_t: usize, seed: u64) -> Plan {
+pub(crate) fn plan(most_n: usize, most_t: usize, seed: u64) -> Plan {
     let n = plus(2, pick(seed, 1, minus(most_n, 1)));
     let t = plus(1, pick(seed, 2, most_t));
     plan_of(n, t, pick(seed, 3, 8), seeded(seed, 4))
@@ -63,7 +67,9 @@ fn with_shift(plan: Plan, j: usize, p: usize) -> Plan {
     let n = plan.n;
     let t = plan.t;
     let mut shifts = plan.shifts;
-    put16(&mut shifts[..], j, p);
+    if j < 32 {
+        shifts[j] = low16(p);
+    }
     Plan { n, t, shifts }
 }
 
@@ -73,7 +79,7 @@ fn with_size(plan: Plan, n: usize, t: usize) -> Plan {
 }
 
 // The plan with a fault, or as it is.
-pub fn spoilt(plan: Plan, seed: u64) -> Plan {
+pub(crate) fn spoilt(plan: Plan, seed: u64) -> Plan {
     let n = plan.n;
     let t = plan.t;
     match pick(seed, 5, 24) {
@@ -95,27 +101,25 @@ pub fn spoilt(plan: Plan, seed: u64) -> Plan {
 }
 
 fn least_of_places(plan: Plan) -> usize {
-    least(times(plan.n, plan.t), 32768)
+    least(rows::places(plan), 32768)
 }
 
 // The lengths that the plan asks for; any where the plan is refused.
-pub fn lens(plan: Plan) -> Lens {
-    let t = plan.t;
-    let s = plan.shifts;
-    let places = least_of_places(plan);
+pub(crate) fn lens(plan: Plan) -> Lens {
+    let block = least_of_places(plan);
     if refusals::of_plan(plan) != 0 {
         return Lens {
-            block: places,
+            block,
             marks: 5,
             list: 6,
             message: 7,
         };
     }
     Lens {
-        block: places,
-        marks: refusals::mark_bytes(places),
-        list: plus(t, t),
-        message: messages::count(plan.n, t, &s[..]),
+        block,
+        marks: refusals::mark_bytes(block),
+        list: rows::rows(plan),
+        message: messages::count(plan),
     }
 }
 
@@ -129,7 +133,7 @@ fn off(k: usize, seed: u64) -> usize {
 }
 
 // The lengths with a fault in one, or as they are.
-pub fn spoilt_lens(lens: Lens, seed: u64) -> Lens {
+pub(crate) fn spoilt_lens(lens: Lens, seed: u64) -> Lens {
     let block = lens.block;
     let marks = lens.marks;
     let list = lens.list;
@@ -164,17 +168,14 @@ pub fn spoilt_lens(lens: Lens, seed: u64) -> Lens {
 }
 
 // A codeword of a random message.
-pub fn codeword(plan: Plan, seed: u64, block: &mut [u8]) {
-    let t = plan.t;
-    let s = plan.shifts;
-    let places = least_of_places(plan);
-    fill8(&mut block[..], places, seed);
-    messages::complete(plan.n, t, &s[..], block);
+pub(crate) fn codeword(plan: Plan, seed: u64, block: &mut Bytes) {
+    fill8(&mut *block, least_of_places(plan), seed);
+    messages::complete(plan, block);
 }
 
 // Whether a place is erased. Kinds: none; each with the same chance; two neighbouring sections but for one place; parity
 // places; a few; a run.
-fn is_erased(kind: usize, places: usize, t: usize, seed: u64, c: usize, parity: &[u8]) -> bool {
+fn is_erased(kind: usize, places: usize, t: usize, seed: u64, c: usize, parity: &Bytes) -> bool {
     match kind {
         0 => false,
         1 => pick(seed, plus(1000, c) as u64, 64) < pick(seed, 10, 48),
@@ -198,40 +199,37 @@ fn mark(
     t: usize,
     seed: u64,
     c: usize,
-    parity: &[u8],
-    marks: &mut [u8],
+    parity: &Bytes,
+    marks: &mut Bytes,
 ) {
     if is_erased(kind, places, t, seed, c, parity) {
         set_bit(marks, c);
     }
 }
 
-fn mark_all(kind: usize, places: usize, t: usize, seed: u64, parity: &[u8], marks: &mut [u8]) {
+fn mark_all(kind: usize, places: usize, t: usize, seed: u64, parity: &Bytes, marks: &mut Bytes) {
     let mut c: usize = 0;
     while c < places {
-        mark(kind, places, t, seed, c, parity, &mut marks[..]);
+        mark(kind, places, t, seed, c, parity, &mut *marks);
         c += 1;
     }
 }
 
 // The parity places are looked for only where the kind asks for them.
-fn parities_for(kind: usize, n: usize, t: usize, shifts: &[u16], parity: &mut [u8]) {
+fn parities_for(kind: usize, plan: Plan, parity: &mut Bytes) {
     if kind == 3 {
-        messages::parities(n, t, shifts, parity);
+        messages::parities(plan, parity);
     }
 }
 
-pub fn marks(plan: Plan, kind: usize, seed: u64, marks: &mut [u8]) {
-    let t = plan.t;
-    let s = plan.shifts;
-    let places = least_of_places(plan);
+pub(crate) fn marks(plan: Plan, kind: usize, seed: u64, marks: &mut Bytes) {
     let mut parity = [0u8; 32784];
-    parities_for(kind, plan.n, t, &s[..], &mut parity[..]);
-    mark_all(kind, places, t, seed, &parity[..], marks);
+    parities_for(kind, plan, &mut parity);
+    mark_all(kind, least_of_places(plan), plan.t, seed, &parity, marks);
 }
 
 // A spare bit, where there is one, or none.
-pub fn spoilt_marks(plan: Plan, seed: u64, marks: &mut [u8]) {
+pub(crate) fn spoilt_marks(plan: Plan, seed: u64, marks: &mut Bytes) {
     let places = least_of_places(plan);
     if pick(seed, 12, 2) != 0 {
         return;
@@ -241,28 +239,28 @@ pub fn spoilt_marks(plan: Plan, seed: u64, marks: &mut [u8]) {
     }
 }
 
-fn rub_one(marks: &[u8], c: usize, seed: u64, block: &mut [u8]) {
+fn rub_one(marks: &Bytes, c: usize, seed: u64, block: &mut Bytes) {
     if bit(marks, c) != 0 {
         put8(block, c, low8(pick(seed, plus(1000, c) as u64, 256)));
     }
 }
 
 // Any symbols at the erased places.
-pub fn rub(plan: Plan, marks: &[u8], seed: u64, block: &mut [u8]) {
+pub(crate) fn rub(plan: Plan, marks: &Bytes, seed: u64, block: &mut Bytes) {
     let places = least_of_places(plan);
     let mut c: usize = 0;
     while c < places {
-        rub_one(marks, c, seed, &mut block[..]);
+        rub_one(marks, c, seed, &mut *block);
         c += 1;
     }
 }
 
 // Another symbol at one place, where the block is not as it was sent.
-pub fn damage(plan: Plan, is_sent: bool, seed: u64, block: &mut [u8]) {
+pub(crate) fn damage(plan: Plan, is_sent: bool, seed: u64, block: &mut Bytes) {
     if is_sent {
         return;
     }
     let c = pick(seed, 14, least_of_places(plan));
-    let old = get8(&block[..], c);
+    let old = get8(&*block, c);
     put8(block, c, old ^ low8(plus(1, pick(seed, 15, 255))));
 }

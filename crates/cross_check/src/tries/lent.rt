@@ -1,9 +1,10 @@
 // The calls with buffers: recover, erasure_count, encode, message_of.
+use crate::buffers::Bytes;
+use crate::buffers::Words;
 use crate::buffers::copy8;
 use crate::buffers::same8;
 use crate::buffers::same16;
-use crate::numbers::plus;
-use crate::numbers::times;
+use crate::numbers::least;
 use crate::numbers::wide8;
 use crate::random;
 use crate::second::cycles;
@@ -11,6 +12,7 @@ use crate::second::messages;
 use crate::second::outcomes;
 use crate::second::outcomes::Outcome;
 use crate::second::refusals;
+use crate::second::rows;
 use crate::tally::COUNTED;
 use crate::tally::CROSSED;
 use crate::tally::LOOSE;
@@ -25,85 +27,80 @@ use calls::Counted;
 use plan::Plan;
 
 // How much of each buffer is lent.
-pub struct Lens {
-    pub block: usize,
-    pub marks: usize,
-    pub list: usize,
-    pub message: usize,
+pub(crate) struct Lens {
+    pub(crate) block: usize,
+    pub(crate) marks: usize,
+    pub(crate) list: usize,
+    pub(crate) message: usize,
 }
 
-// No number of 01: the case itself is wrong.
+// No number of 01: the two implementations differ.
 const NONE: usize = 99;
 
-// The refusal of recover.
-fn recover_number(plan: Plan, lens: Lens, marks: &[u8]) -> usize {
-    let number = refusals::of_plan(plan);
-    let t = plan.t;
-    if number != 0 {
-        return number;
-    }
-    let places = times(plan.n, t);
-    if lens.block != places {
-        return 3;
-    }
+// The refusal of erasure_count where the plan is not refused, and of recover where its other lengths are not either.
+fn marks_number(plan: Plan, lens: Lens, marks: &Bytes) -> usize {
+    let places = rows::places(plan);
     if lens.marks != refusals::mark_bytes(places) {
-        return 3;
-    }
-    if lens.list != plus(t, t) {
         return 3;
     }
     refusals::of_spare(places, marks)
 }
 
+// The refusal of recover.
+fn recover_number(plan: Plan, lens: Lens, marks: &Bytes) -> usize {
+    let number = refusals::of_plan(plan);
+    if number != 0 {
+        return number;
+    }
+    if lens.block != rows::places(plan) {
+        return 3;
+    }
+    if lens.list != rows::rows(plan) {
+        return 3;
+    }
+    marks_number(plan, lens, marks)
+}
+
 fn recover_second(
     plan: Plan,
     lens: Lens,
-    marks: &[u8],
-    block: &mut [u8],
-    list: &mut [u16],
+    marks: &Bytes,
+    block: &mut Bytes,
+    list: &mut Words,
 ) -> Outcome {
     let number = recover_number(plan, lens, marks);
     if number != 0 {
         return Outcome { number, count: 0 };
     }
-    let t = plan.t;
-    let s = plan.shifts;
-    outcomes::recover(plan.n, t, &s[..], marks, block, list)
+    outcomes::recover(plan, marks, block, list)
 }
 
-fn recover_library(
+// Of each buffer so much is lent as the lengths say.
+fn recover_parts(
     plan: Plan,
     lens: Lens,
     marks: &[u8],
     block: &mut [u8],
     list: &mut [u16],
 ) -> Outcome {
-    let b = lens.block;
-    let m = lens.marks;
-    let w = lens.list;
-    if block.len() < b {
-        return Outcome {
-            number: NONE,
-            count: 0,
-        };
-    }
-    if marks.len() < m {
-        return Outcome {
-            number: NONE,
-            count: 0,
-        };
-    }
-    if list.len() < w {
-        return Outcome {
-            number: NONE,
-            count: 0,
-        };
-    }
+    let m = least(lens.marks, marks.len());
+    let b = least(lens.block, block.len());
+    let w = least(lens.list, list.len());
     let answer = recovery::recover(plan, &mut block[0..b], &marks[0..m], &mut list[0..w]);
     Outcome {
         number: wide8(answer.number()),
         count: answer.count(),
     }
+}
+
+fn recover_library(
+    plan: Plan,
+    lens: Lens,
+    marks: &Bytes,
+    block: &mut Bytes,
+    list: &mut Words,
+) -> Outcome {
+    recover_parts(plan, lens, &marks[..], &mut block[..], &mut list[..])
 }
 
 fn recover_outcome(number: usize) -> usize {
@@ -119,25 +116,26 @@ fn recover_outcome(number: usize) -> usize {
 fn same_list(
     plan: Plan,
     w: usize,
-    marks: &[u8],
+    marks: &Bytes,
     mine: Outcome,
     theirs: Outcome,
-    my_list: &[u16],
-    their_list: &[u16],
+    my_list: &Words,
+    their_list: &Words,
 ) -> bool {
     if mine.number != theirs.number {
         return false;
     }
-    if mine.number != 6 {
-        return mine.count == theirs.count && same16(w, my_list, their_list);
+    if mine.number == 6 {
+        return cycles::is_cycle(plan, marks, their_list, theirs.count);
     }
-    let t = plan.t;
-    let s = plan.shifts;
-    cycles::is_cycle(times(plan.n, t), t, &s[..], marks, their_list, theirs.count)
+    if mine.count != theirs.count {
+        return false;
+    }
+    same16(w, my_list, their_list)
 }
 
 // What an undamaged block comes to: never crossed, and recovered to the codeword that was sent.
-fn as_sent(is_sent: bool, number: usize, k: usize, sent: &[u8], block: &[u8]) -> bool {
+fn as_sent(is_sent: bool, number: usize, k: usize, sent: &Bytes, block: &Bytes) -> bool {
     if !is_sent {
         return true;
     }
@@ -150,172 +148,181 @@ fn as_sent(is_sent: bool, number: usize, k: usize, sent: &[u8], block: &[u8]) ->
     same8(k, sent, block)
 }
 
-// Recovers a block. Where it is sent and not damaged, sent has the codeword.
-pub fn recover(
+// The number that both answer with, each on a block of its own and a list that holds other numbers.
+fn recovered(
     plan: Plan,
     lens: Lens,
-    block: &[u8],
-    marks: &[u8],
+    marks: &Bytes,
+    seed: u64,
+    mine: &mut Bytes,
+    theirs: &mut Bytes,
+) -> usize {
+    let mut my_list = [0u16; 4112];
+    let mut their_list = [0u16; 4112];
+    let w = lens.list;
+    random::fill16(&mut my_list, w, seed);
+    random::fill16(&mut their_list, w, seed);
+    let a = recover_second(plan, lens, marks, mine, &mut my_list);
+    let b = recover_library(plan, lens, marks, theirs, &mut their_list);
+    if !same_list(plan, w, marks, a, b, &my_list, &their_list) {
+        return NONE;
+    }
+    b.number
+}
+
+// Recovers a block. Where it is sent and not damaged, sent has the codeword.
+pub(crate) fn recover(
+    plan: Plan,
+    lens: Lens,
+    block: &Bytes,
+    marks: &Bytes,
     is_sent: bool,
-    sent: &[u8],
+    sent: &Bytes,
     seed: u64,
 ) -> usize {
     let mut mine = [0u8; 32784];
     let mut theirs = [0u8; 32784];
-    let mut my_list = [0u16; 4112];
-    let mut their_list = [0u16; 4112];
     let k = lens.block;
-    let w = lens.list;
-    copy8(k, block, &mut mine[..]);
-    copy8(k, block, &mut theirs[..]);
-    random::fill16(&mut my_list[..], w, 65536, seed);
-    random::fill16(&mut their_list[..], w, 65536, seed);
-    let a = recover_second(plan, lens, marks, &mut mine[..], &mut my_list[..]);
-    let b = recover_library(plan, lens, marks, &mut theirs[..], &mut their_list[..]);
-    if !same_list(plan, w, marks, a, b, &my_list[..], &their_list[..]) {
-        return MISMATCH;
-    }
-    if !same8(k, &mine[..], &theirs[..]) {
+    copy8(k, block, &mut mine);
+    copy8(k, block, &mut theirs);
+    let number = recovered(plan, lens, marks, seed, &mut mine, &mut theirs);
+    if !same8(k, &mine, &theirs) {
         return MISMATCH;
     }
     judged(
-        as_sent(is_sent, b.number, k, sent, &theirs[..]),
-        recover_outcome(b.number),
+        as_sent(is_sent, number, k, sent, &theirs),
+        recover_outcome(number),
     )
 }
 
-fn count_number(plan: Plan, lens: Lens, marks: &[u8]) -> usize {
+fn count_number(plan: Plan, lens: Lens, marks: &Bytes) -> usize {
     let number = refusals::of_plan(plan);
     if number != 0 {
         return number;
     }
-    let places = times(plan.n, plan.t);
-    if lens.marks != refusals::mark_bytes(places) {
-        return 3;
-    }
-    refusals::of_spare(places, marks)
+    marks_number(plan, lens, marks)
 }
 
-pub fn count(plan: Plan, lens: Lens, marks: &[u8]) -> usize {
-    let number = count_number(plan, lens, marks);
-    let m = lens.marks;
-    if marks.len() < m {
-        return MISMATCH;
-    }
-    let places = times(plan.n, plan.t);
-    match calls::erasure_count(plan, &marks[0..m]) {
+// The outcome of a count, where the second implementation's answer is this number.
+fn counted(plan: Plan, number: usize, marks: &Bytes, answer: Counted) -> usize {
+    match answer {
         Counted::Marks(k) => judged(
-            number == 0 && k == refusals::bits(marks, 0, places),
+            number == 0 && k == refusals::bits(marks, 0, rows::places(plan)),
             COUNTED,
         ),
-        Counted::Refused(x) => judged(number != 0 && wide8(x.number()) == number, refusal(number)),
+        Counted::Refused(x) => judged(wide8(x.number()) == number, refusal(number)),
     }
+}
+
+fn count_library(plan: Plan, lens: Lens, marks: &[u8]) -> Counted {
+    let m = least(lens.marks, marks.len());
+    calls::erasure_count(plan, &marks[0..m])
+}
+
+pub(crate) fn count(plan: Plan, lens: Lens, marks: &Bytes) -> usize {
+    let number = count_number(plan, lens, marks);
+    counted(plan, number, marks, count_library(plan, lens, &marks[..]))
 }
 
 // The refusal of encode and message_of.
-fn message_number(plan: Plan, lens: Lens) -> usize {
+fn carry_number(plan: Plan, lens: Lens) -> usize {
     let number = refusals::of_plan(plan);
     if number != 0 {
         return number;
     }
-    let t = plan.t;
-    let s = plan.shifts;
-    let places = times(plan.n, t);
-    if lens.block != places {
+    if lens.block != rows::places(plan) {
         return 3;
     }
-    if lens.message != messages::count(plan.n, t, &s[..]) {
+    if lens.message != messages::count(plan) {
         return 3;
     }
     0
 }
 
-fn encode_second(plan: Plan, lens: Lens, message: &[u8], block: &mut [u8]) -> usize {
-    let number = message_number(plan, lens);
+fn carry_second(plan: Plan, lens: Lens, is_reading: bool, from: &Bytes, to: &mut Bytes) -> usize {
+    let number = carry_number(plan, lens);
     if number != 0 {
         return number;
     }
-    let t = plan.t;
-    let s = plan.shifts;
-    messages::encode(plan.n, t, &s[..], message, block);
+    if is_reading {
+        return messages::read(plan, from, to);
+    }
+    messages::encode(plan, from, to);
     0
 }
 
-fn encode_library(plan: Plan, lens: Lens, message: &[u8], block: &mut [u8]) -> usize {
-    let b = lens.block;
-    let m = lens.message;
-    if block.len() < b {
-        return NONE;
+// f symbols of one buffer into k of another.
+fn carry_parts(
+    plan: Plan,
+    is_reading: bool,
+    f: usize,
+    k: usize,
+    from: &[u8],
+    to: &mut [u8],
+) -> usize {
+    let a = least(f, from.len());
+    let b = least(k, to.len());
+    if is_reading {
+        return wide8(sealing::message_of(plan, &from[0..a], &mut to[0..b]).number());
     }
-    if message.len() < m {
-        return NONE;
-    }
-    wide8(sealing::encode(plan, &message[0..m], &mut block[0..b]).number())
+    wide8(sealing::encode(plan, &from[0..a], &mut to[0..b]).number())
 }
 
-fn encode_outcome(number: usize) -> usize {
+fn carry_library(
+    plan: Plan,
+    is_reading: bool,
+    f: usize,
+    k: usize,
+    from: &Bytes,
+    to: &mut Bytes,
+) -> usize {
+    carry_parts(plan, is_reading, f, k, &from[..], &mut to[..])
+}
+
+fn carry_outcome(is_reading: bool, number: usize) -> usize {
     match number {
-        0 => SEALED,
-        _ => refusal(number),
-    }
-}
-
-// Encodes a message into a block that holds other symbols.
-pub fn encode(plan: Plan, lens: Lens, message: &[u8], block: &[u8]) -> usize {
-    let mut mine = [0u8; 32784];
-    let mut theirs = [0u8; 32784];
-    let k = lens.block;
-    copy8(k, block, &mut mine[..]);
-    copy8(k, block, &mut theirs[..]);
-    let a = encode_second(plan, lens, message, &mut mine[..]);
-    let b = encode_library(plan, lens, message, &mut theirs[..]);
-    if a != b {
-        return MISMATCH;
-    }
-    judged(same8(k, &mine[..], &theirs[..]), encode_outcome(b))
-}
-
-fn read_second(plan: Plan, lens: Lens, block: &[u8], message: &mut [u8]) -> usize {
-    let number = message_number(plan, lens);
-    if number != 0 {
-        return number;
-    }
-    let t = plan.t;
-    let s = plan.shifts;
-    messages::read(plan.n, t, &s[..], block, message)
-}
-
-fn read_library(plan: Plan, lens: Lens, block: &[u8], message: &mut [u8]) -> usize {
-    let b = lens.block;
-    let m = lens.message;
-    if block.len() < b {
-        return NONE;
-    }
-    if message.len() < m {
-        return NONE;
-    }
-    wide8(sealing::message_of(plan, &block[0..b], &mut message[0..m]).number())
-}
-
-fn read_outcome(number: usize) -> usize {
-    match number {
-        0 => READ,
+        0 => {
+            if is_reading {
+                return READ;
+            }
+            SEALED
+        }
         5 => READ_CROSSED,
         _ => refusal(number),
     }
 }
 
-// Reads the message of a block into a buffer that holds other symbols.
-pub fn read(plan: Plan, lens: Lens, block: &[u8], message: &[u8]) -> usize {
+// From a buffer of f symbols into one of k that holds other symbols.
+fn carried(
+    plan: Plan,
+    lens: Lens,
+    is_reading: bool,
+    f: usize,
+    k: usize,
+    from: &Bytes,
+    to: &Bytes,
+) -> usize {
     let mut mine = [0u8; 32784];
     let mut theirs = [0u8; 32784];
-    let m = lens.message;
-    copy8(m, message, &mut mine[..]);
-    copy8(m, message, &mut theirs[..]);
-    let a = read_second(plan, lens, block, &mut mine[..]);
-    let b = read_library(plan, lens, block, &mut theirs[..]);
-    if a != b {
+    copy8(k, to, &mut mine);
+    copy8(k, to, &mut theirs);
+    let number = carry_second(plan, lens, is_reading, from, &mut mine);
+    if carry_library(plan, is_reading, f, k, from, &mut theirs) != number {
         return MISMATCH;
     }
-    judged(same8(m, &mine[..], &theirs[..]), read_outcome(b))
+    judged(same8(k, &mine, &theirs), carry_outcome(is_reading, number))
+}
+
+// Encodes a message into a block that holds other symbols, or reads the message of a block into such a buffer.
+pub(crate) fn carry(
+    plan: Plan,
+    lens: Lens,
+    is_reading: bool,
+    message: &Bytes,
+    block: &Bytes,
+) -> usize {
+    if is_reading {
+        return carried(plan, lens, true, lens.block, lens.message, block, message);
+    }
+    carried(plan, lens, false, lens.message, lens.block, message, block)
 }

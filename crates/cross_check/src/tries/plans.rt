@@ -1,14 +1,13 @@
 // Plans: the making of them, their verdict and their figures.
-use crate::buffers::copy16;
-use crate::buffers::same16;
 use crate::numbers::least;
-use crate::numbers::minus;
-use crate::numbers::plus;
-use crate::numbers::times;
 use crate::numbers::wide8;
-use crate::second;
+use crate::second::measures;
 use crate::second::messages;
+use crate::second::plans;
+use crate::second::plans::Making;
 use crate::second::refusals;
+use crate::second::rows::places;
+use crate::second::rows::shift;
 use crate::tally::FIGURES;
 use crate::tally::MISMATCH;
 use crate::tally::PLANNED;
@@ -20,146 +19,128 @@ use plan::Count;
 use plan::Made;
 use plan::Plan;
 
-// The outcome where the plan was made as expected: with these numbers on success, else of zeros only.
-fn made_as(made: Made, number: usize, n: usize, t: usize, shifts: &[u16]) -> usize {
-    let answer = made.answer;
-    let plan = made.plan;
+// All 32 shifts are compared.
+fn same_shifts(a: Plan, b: Plan) -> bool {
+    let mut j: usize = 0;
+    while j < 32 {
+        if shift(a, j) != shift(b, j) {
+            return false;
+        }
+        j += 1;
+    }
+    true
+}
+
+fn same_plan(a: Plan, b: Plan) -> bool {
+    if a.n != b.n {
+        return false;
+    }
+    if a.t != b.t {
+        return false;
+    }
+    same_shifts(a, b)
+}
+
+fn plan_outcome(number: usize) -> usize {
+    match number {
+        0 => PLANNED,
+        _ => refusal(number),
+    }
+}
+
+// The outcome where the plan was made as expected.
+fn made_as(theirs: Made, mine: Making) -> usize {
+    let answer = theirs.answer;
+    if wide8(answer.number()) != mine.number {
+        return MISMATCH;
+    }
+    judged(same_plan(theirs.plan, mine.plan), plan_outcome(mine.number))
+}
+
+// A plan's shifts, then zeros, so that more than 32 can be lent.
+fn padded(plan: Plan) -> [u16; 40] {
     let s = plan.shifts;
-    let none = [0u16; 32];
-    if wide8(answer.number()) != number {
-        return MISMATCH;
+    let mut shifts = [0u16; 40];
+    let mut j: usize = 0;
+    while j < 32 {
+        shifts[j] = s[j];
+        j += 1;
     }
-    if number == 0 {
-        return judged(
-            plan.n == n && plan.t == t && same16(32, &s[..], shifts),
-            PLANNED,
-        );
-    }
-    judged(
-        plan.n == 0 && plan.t == 0 && same16(32, &s[..], &none[..]),
-        refusal(number),
-    )
+    shifts
 }
 
-// The refusal of Plan::of: 1, then 2.
-fn of_number(n: usize, t: usize, lent: usize, shifts: &[u16]) -> usize {
-    if refusals::of_size(n, t) != 0 {
-        return 1;
-    }
-    if lent != n {
-        return 2;
-    }
-    refusals::of_shifts(n, t, shifts)
-}
-
-// Plan::of with some of the shifts lent.
-pub fn of(n: usize, t: usize, lent: usize, shifts: &[u16]) -> usize {
-    if shifts.len() < lent {
-        return MISMATCH;
-    }
-    let mut padded = [0u16; 32];
-    copy16(least(lent, 32), shifts, &mut padded[..]);
+// Plan::of with some of the shifts lent, at most 40.
+pub(crate) fn of(plan: Plan, lent: usize) -> usize {
+    let shifts = padded(plan);
+    let k = least(lent, 40);
     made_as(
-        Plan::of(n, t, &shifts[0..lent]),
-        of_number(n, t, lent, shifts),
-        n,
-        t,
-        &padded[..],
+        Plan::of(plan.n, plan.t, &shifts[0..k]),
+        plans::of(plan, lent),
     )
 }
 
-pub fn straight(n: usize, t: usize) -> usize {
-    let mut shifts = [0u16; 32];
-    let number = second::plans::straight(n, t, &mut shifts[..]);
-    made_as(Plan::straight(n, t), number, n, t, &shifts[..])
+pub(crate) fn straight(n: usize, t: usize) -> usize {
+    made_as(Plan::straight(n, t), plans::straight(n, t))
 }
 
-pub fn powers(n: usize, t: usize, q: usize) -> usize {
-    let mut shifts = [0u16; 32];
-    let number = second::plans::powers(n, t, q, &mut shifts[..]);
-    made_as(Plan::powers(n, t, q), number, n, t, &shifts[..])
+pub(crate) fn powers(n: usize, t: usize, q: usize) -> usize {
+    made_as(Plan::powers(n, t, q), plans::powers(n, t, q))
 }
 
-pub fn ruler(n: usize) -> usize {
-    let mut shifts = [0u16; 32];
-    let number = second::plans::ruler(n, &mut shifts[..]);
-    made_as(
-        Plan::ruler(n),
-        number,
-        n,
-        second::plans::ruler_t(n),
-        &shifts[..],
-    )
+pub(crate) fn ruler(n: usize) -> usize {
+    made_as(Plan::ruler(n), plans::ruler(n))
 }
 
 // The outcome of a plan's verdict.
-pub fn verdict(plan: Plan) -> usize {
+pub(crate) fn verdict(plan: Plan) -> usize {
     let number = refusals::of_plan(plan);
     if wide8(plan.verdict().number()) != number {
         return MISMATCH;
     }
-    if number == 0 {
-        return PLANNED;
-    }
-    refusal(number)
+    plan_outcome(number)
 }
 
 fn same_figures(plan: Plan, four: Four) -> bool {
-    let n = plan.n;
-    let t = plan.t;
-    let s = plan.shifts;
-    if four.parity != second::measures::parity(n, t, &s[..]) {
+    if four.parity != measures::parity(plan) {
         return false;
     }
-    if four.pair != second::measures::pair(n, t, &s[..]) {
+    if four.pair != measures::pair(plan) {
         return false;
     }
-    if four.neighbour != second::measures::neighbour(n, t, &s[..]) {
+    if four.neighbour != measures::neighbour(plan) {
         return false;
     }
-    four.distance == second::measures::distance(n, t, &s[..])
+    four.distance == measures::distance(plan)
 }
 
 // A small plan's distance by trying every word.
 fn same_weight(plan: Plan, distance: usize) -> bool {
-    let n = plan.n;
-    let t = plan.t;
-    let s = plan.shifts;
-    let places = times(n, t);
-    if 14 < places {
+    if 14 < places(plan) {
         return true;
     }
-    distance == second::measures::least_weight(places, t, &s[..])
+    distance == measures::least_weight(plan)
 }
 
-pub fn figures(plan: Plan) -> usize {
+// The outcome of a refusal, where it is the expected one.
+fn refused_as(theirs: usize, mine: usize) -> usize {
+    judged(theirs == mine, refusal(mine))
+}
+
+pub(crate) fn figures(plan: Plan) -> usize {
     let number = refusals::of_plan(plan);
     match figures::figures(plan) {
-        Answer::Are(four) => {
-            if number != 0 {
-                return MISMATCH;
-            }
-            judged(
-                same_figures(plan, four) && same_weight(plan, four.distance),
-                FIGURES,
-            )
-        }
-        Answer::Not(x) => judged(wide8(x.number()) == number && number != 0, refusal(number)),
+        Answer::Are(four) => judged(
+            number == 0 && same_figures(plan, four) && same_weight(plan, four.distance),
+            FIGURES,
+        ),
+        Answer::Not(x) => refused_as(wide8(x.number()), number),
     }
 }
 
-pub fn message_count(plan: Plan) -> usize {
-    let n = plan.n;
-    let t = plan.t;
-    let s = plan.shifts;
+pub(crate) fn message_count(plan: Plan) -> usize {
     let number = refusals::of_plan(plan);
     match plan.message_count() {
-        Count::Is(k) => {
-            if number != 0 {
-                return MISMATCH;
-            }
-            judged(k == messages::count(n, t, &s[..]), FIGURES)
-        }
-        Count::Not(x) => judged(wide8(x.number()) == number && number != 0, refusal(number)),
+        Count::Is(k) => judged(number == 0 && k == messages::count(plan), FIGURES),
+        Count::Not(x) => refused_as(wide8(x.number()), number),
     }
 }

@@ -1,90 +1,108 @@
 // A case of each kind for every seed.
+use crate::buffers::Bytes;
 use crate::buffers::copy8;
 use crate::numbers::minus;
 use crate::numbers::plus;
 use crate::random::fill8;
 use crate::random::pick;
 use crate::random::seeded;
+use crate::tally::Tally;
 use crate::tally::note;
 use crate::tries::given;
 use crate::tries::lent;
+use crate::tries::lent::Lens;
 use crate::tries::plans;
 use plan::Plan;
 
 // A codeword with erasures of a kind; damaged or not.
-pub fn recovery_of(plan: Plan, kind: usize, is_sent: bool, seed: u64) -> usize {
+pub(crate) fn recovery_of(plan: Plan, kind: usize, is_sent: bool, seed: u64) -> usize {
     let mut sent = [0u8; 32784];
     let mut block = [0u8; 32784];
-    let mut marks = [0u8; 4104];
+    let mut marks = [0u8; 32784];
     let lens = given::lens(plan);
-    given::codeword(plan, seeded(seed, 20), &mut sent[..]);
-    copy8(lens.block, &sent[..], &mut block[..]);
-    given::marks(plan, kind, seeded(seed, 21), &mut marks[..]);
-    given::damage(plan, is_sent, seeded(seed, 22), &mut block[..]);
-    given::rub(plan, &marks[..], seeded(seed, 23), &mut block[..]);
-    lent::recover(plan, lens, &block[..], &marks[..], is_sent, &sent[..], seed)
+    given::codeword(plan, seeded(seed, 20), &mut sent);
+    given::marks(plan, kind, seeded(seed, 21), &mut marks);
+    copy8(lens.block, &sent, &mut block);
+    given::damage(plan, is_sent, seeded(seed, 22), &mut block);
+    given::rub(plan, &marks, seeded(seed, 23), &mut block);
+    lent::recover(plan, lens, &block, &marks, is_sent, &sent, seed)
 }
 
 fn recovery(plan: Plan, seed: u64) -> usize {
     recovery_of(plan, pick(seed, 24, 6), pick(seed, 25, 4) != 0, seed)
 }
 
+fn marks_of(plan: Plan, seed: u64, marks: &mut Bytes) {
+    given::marks(plan, pick(seed, 24, 6), seeded(seed, 21), marks);
+}
+
 fn erasure_count(plan: Plan, seed: u64) -> usize {
-    let mut marks = [0u8; 4104];
-    given::marks(plan, pick(seed, 24, 6), seeded(seed, 21), &mut marks[..]);
-    lent::count(plan, given::lens(plan), &marks[..])
+    let mut marks = [0u8; 32784];
+    marks_of(plan, seed, &mut marks);
+    lent::count(plan, given::lens(plan), &marks)
 }
 
-pub fn encoding(plan: Plan, seed: u64) -> usize {
+// Any message and any block.
+fn carried(plan: Plan, lens: Lens, is_reading: bool, seed: u64) -> usize {
+    let mut message = [0u8; 32784];
+    let mut block = [0u8; 32784];
+    fill8(&mut message, lens.message, seeded(seed, 26));
+    fill8(&mut block, lens.block, seeded(seed, 27));
+    lent::carry(plan, lens, is_reading, &message, &block)
+}
+
+pub(crate) fn encoding(plan: Plan, seed: u64) -> usize {
+    carried(plan, given::lens(plan), false, seed)
+}
+
+pub(crate) fn reading(plan: Plan, is_sent: bool, seed: u64) -> usize {
     let mut message = [0u8; 32784];
     let mut block = [0u8; 32784];
     let lens = given::lens(plan);
-    fill8(&mut message[..], lens.message, seeded(seed, 26));
-    fill8(&mut block[..], lens.block, seeded(seed, 27));
-    lent::encode(plan, lens, &message[..], &block[..])
+    fill8(&mut message, lens.message, seeded(seed, 26));
+    given::codeword(plan, seeded(seed, 20), &mut block);
+    given::damage(plan, is_sent, seeded(seed, 22), &mut block);
+    lent::carry(plan, lens, true, &message, &block)
 }
 
-pub fn reading(plan: Plan, is_sent: bool, seed: u64) -> usize {
-    let mut message = [0u8; 32784];
+// The marks are those of a plan, with a fault of the spoilt one.
+fn faulty_recovery(plan: Plan, spoilt: Plan, lens: Lens, seed: u64) -> usize {
     let mut block = [0u8; 32784];
-    let lens = given::lens(plan);
-    fill8(&mut message[..], lens.message, seeded(seed, 26));
-    given::codeword(plan, seeded(seed, 20), &mut block[..]);
-    given::damage(plan, is_sent, seeded(seed, 22), &mut block[..]);
-    lent::read(plan, lens, &block[..], &message[..])
+    let mut marks = [0u8; 32784];
+    fill8(&mut block, lens.block, seeded(seed, 27));
+    marks_of(plan, seed, &mut marks);
+    given::spoilt_marks(spoilt, seed, &mut marks);
+    lent::recover(spoilt, lens, &block, &marks, false, &block, seed)
+}
+
+fn faulty_count(plan: Plan, spoilt: Plan, lens: Lens, seed: u64) -> usize {
+    let mut marks = [0u8; 32784];
+    marks_of(plan, seed, &mut marks);
+    given::spoilt_marks(spoilt, seed, &mut marks);
+    lent::count(spoilt, lens, &marks)
 }
 
 // A call with faults in the plan, the lengths or the marks; one in four has none.
 fn faulty(plan: Plan, seed: u64) -> usize {
-    let p = given::spoilt(plan, seed);
-    let lens = given::spoilt_lens(given::lens(p), seed);
-    let mut message = [0u8; 32784];
-    let mut block = [0u8; 32784];
-    let mut marks = [0u8; 4104];
-    fill8(&mut message[..], lens.message, seeded(seed, 26));
-    fill8(&mut block[..], lens.block, seeded(seed, 27));
-    given::marks(plan, pick(seed, 24, 6), seeded(seed, 21), &mut marks[..]);
-    given::spoilt_marks(p, seed, &mut marks[..]);
+    let spoilt = given::spoilt(plan, seed);
+    let lens = given::spoilt_lens(given::lens(spoilt), seed);
     match pick(seed, 28, 6) {
-        0 => lent::recover(p, lens, &block[..], &marks[..], false, &block[..], seed),
-        1 => lent::recover(p, lens, &block[..], &marks[..], false, &block[..], seed),
-        2 => lent::count(p, lens, &marks[..]),
-        3 => lent::encode(p, lens, &message[..], &block[..]),
-        4 => lent::read(p, lens, &block[..], &message[..]),
-        _ => plans::message_count(p),
+        0 | 1 => faulty_recovery(plan, spoilt, lens, seed),
+        2 => faulty_count(plan, spoilt, lens, seed),
+        3 => carried(spoilt, lens, false, seed),
+        4 => carried(spoilt, lens, true, seed),
+        _ => plans::message_count(spoilt),
     }
 }
 
 // Plan::of with a length that is n, or not.
 fn making(plan: Plan, seed: u64) -> usize {
-    let p = given::spoilt(plan, seed);
-    let s = p.shifts;
-    let n = p.n;
+    let spoilt = given::spoilt(plan, seed);
     match pick(seed, 29, 4) {
-        0 => plans::of(n, p.t, plan.n, &s[..]),
-        1 => plans::of(n, p.t, minus(plan.n, 1), &s[..]),
-        2 => plans::verdict(p),
-        _ => plans::figures(p),
+        0 => plans::of(spoilt, plan.n),
+        1 => plans::of(spoilt, minus(plan.n, 1)),
+        2 => plans::verdict(spoilt),
+        _ => plans::figures(spoilt),
     }
 }
 
@@ -116,13 +134,59 @@ fn one(kind: usize, most_n: usize, most_t: usize, seed: u64) -> usize {
 }
 
 // Cases of one kind, by rising seeds.
-pub fn many(kind: usize, most_n: usize, most_t: usize, cases: u64, tally: &mut [u64]) {
+fn many(kind: usize, most_n: usize, most_t: usize, cases: u64, tally: &mut Tally) {
     let mut i: u64 = 0;
     while i < cases {
         note(
-            &mut tally[..],
+            &mut *tally,
             one(kind, most_n, most_t, seeded(i, kind as u64)),
         );
+        i += 1;
+    }
+}
+
+// Cases of one kind: of plans of at most so many sections and symbols, and how many there are.
+struct Cases {
+    kind: usize,
+    most_n: usize,
+    most_t: usize,
+    count: u64,
+}
+
+fn row(kind: usize, most_n: usize, most_t: usize, count: u64) -> Cases {
+    Cases {
+        kind,
+        most_n,
+        most_t,
+        count,
+    }
+}
+
+// Kinds: 0 recovery, 1 count, 2 encoding, 3 reading, 4 figures, 5 faults, 6 plans, 7 families. Small plans, refusals and
+// larger plans.
+fn listed(i: usize) -> Cases {
+    match i {
+        0 => row(0, 5, 6, 3000),
+        1 => row(1, 6, 20, 500),
+        2 => row(2, 6, 20, 800),
+        3 => row(3, 6, 20, 1200),
+        4 => row(4, 3, 5, 400),
+        5 => row(5, 8, 12, 6000),
+        6 => row(6, 6, 9, 2000),
+        7 => row(7, 0, 0, 3000),
+        8 => row(0, 14, 64, 1500),
+        9 => row(0, 32, 300, 60),
+        10 => row(2, 16, 100, 100),
+        11 => row(3, 16, 100, 100),
+        _ => row(4, 12, 60, 300),
+    }
+}
+
+pub(crate) fn all(tally: &mut Tally) {
+    let mut i: usize = 0;
+    while i < 13 {
+        let next = listed(i);
+        many(next.kind, next.most_n, next.most_t, next.count, &mut *tally);
         i += 1;
     }
 }

@@ -1,20 +1,17 @@
--- `buffers::copy8` is safe and ends: the length stays, and the measure is what is left to do. Assumes nothing.
+-- `buffers::copy8` is safe and ends: nothing has to hold from turn to turn, and the measure is what is left to do. Assumes nothing.
 use Prim.Native.Nat.{_-_}
-use borrow.Author.Needs.{needs}
-use lib.ListN.{length}
-use mathlib.Core.Path.{_≡_, refl}
 use native.Mathlib.Omega.{arith}
 use Rattle.cross_check.proofs.buffers.copy8.Statement.{statement}
 use Rattle.cross_check.proofs.buffers.copy8.Tie as tie
 
 abbrev Inv-loop : tie.InvT-loop
-Inv-loop k from to₀ i₀ to i = length to ≡ length to₀
+Inv-loop k from to₀ i₀ to i = Unit {0}
 
 abbrev μ-loop : tie.MeasureT-loop
 μ-loop k from to₀ i₀ to i = k - i
 
 loop-holds : tie.Need-loop-holds Inv-loop μ-loop
-loop-holds c = refl
+loop-holds c = tt
 
 get8-requires : tie.Need-get8-requires Inv-loop μ-loop
 get8-requires c κs = tt
@@ -29,10 +26,7 @@ loop-less : tie.Need-loop-less Inv-loop μ-loop
 loop-less c = omega arith
 
 loop-again : tie.Need-loop-again Inv-loop μ-loop
-loop-again c = search needs
-
-same-length : tie.Need-same-length Inv-loop μ-loop
-same-length c = search needs
+loop-again c = tt
 
 returns : tie.Need-returns Inv-loop μ-loop
 returns c = tt
@@ -49,5 +43,4 @@ copy8-spec =
     add-i
     loop-less
     loop-again
-    same-length
     returns)

@@ -1,26 +1,20 @@
--- `random::fill16` is safe and ends: the length stays, and the measure is what is left to do. Assumes nothing.
+-- `random::fill16` is safe and ends: nothing has to hold from turn to turn, and the measure is what is left to do. Assumes nothing.
 use Prim.Native.Nat.{_-_}
-use borrow.Author.Needs.{needs}
-use lib.ListN.{length}
-use mathlib.Core.Path.{_≡_, refl}
 use native.Mathlib.Omega.{arith}
 use Rattle.cross_check.proofs.random.fill16.Statement.{statement}
 use Rattle.cross_check.proofs.random.fill16.Tie as tie
 
 abbrev Inv-loop : tie.InvT-loop
-Inv-loop s₀ k n seed x₀ i₀ s x i = length s ≡ length s₀
+Inv-loop s₀ k seed x₀ i₀ s x i = Unit {0}
 
 abbrev μ-loop : tie.MeasureT-loop
-μ-loop s₀ k n seed x₀ i₀ s x i = k - i
+μ-loop s₀ k seed x₀ i₀ s x i = k - i
 
 loop-holds : tie.Need-loop-holds Inv-loop μ-loop
-loop-holds c = refl
+loop-holds c = tt
 
 next-requires : tie.Need-next-requires Inv-loop μ-loop
 next-requires c κs = tt
-
-remainder-requires : tie.Need-remainder-requires Inv-loop μ-loop
-remainder-requires c κs = tt
 
 put16-requires : tie.Need-put16-requires Inv-loop μ-loop
 put16-requires c κs = tt
@@ -32,10 +26,7 @@ loop-less : tie.Need-loop-less Inv-loop μ-loop
 loop-less c = omega arith
 
 loop-again : tie.Need-loop-again Inv-loop μ-loop
-loop-again c = search needs
-
-same-length : tie.Need-same-length Inv-loop μ-loop
-same-length c = search needs
+loop-again c = tt
 
 returns : tie.Need-returns Inv-loop μ-loop
 returns c = tt
@@ -48,10 +39,8 @@ fill16-spec =
     μ-loop
     loop-holds
     next-requires
-    remainder-requires
     put16-requires
     add-i
     loop-less
     loop-again
-    same-length
     returns)

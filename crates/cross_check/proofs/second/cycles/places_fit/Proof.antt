@@ -1,29 +1,38 @@
--- `second::cycles::places_fit` is safe and ends: the length stays, and the measure is what is left to do. Assumes nothing.
+-- `second::cycles::places_fit` is safe and ends: nothing has to hold from turn to turn, and the measure is what is left to do. Assumes nothing.
 use Prim.Native.Nat.{_-_}
-use borrow.Author.Needs.{needs}
-use lib.ListN.{length}
-use mathlib.Core.Path.{_≡_, refl}
 use native.Mathlib.Omega.{arith}
 use Rattle.cross_check.proofs.second.cycles.places_fit.Statement.{statement}
 use Rattle.cross_check.proofs.second.cycles.places_fit.Tie as tie
 
 abbrev Inv-loop : tie.InvT-loop
-Inv-loop places marks list z met₀ i₀ met i = length met ≡ length met₀
+Inv-loop plan marks list z met₀ i₀ met i = Unit {0}
 
 abbrev μ-loop : tie.MeasureT-loop
-μ-loop places marks list z met₀ i₀ met i = z - i
+μ-loop plan marks list z met₀ i₀ met i = z - i
 
 loop-holds : tie.Need-loop-holds Inv-loop μ-loop
-loop-holds c = refl
+loop-holds c = tt
 
-slice-aggregate-place-fits : tie.Need-slice-aggregate-place-fits Inv-loop μ-loop
-slice-aggregate-place-fits c = search needs
+get16-requires : tie.Need-get16-requires Inv-loop μ-loop
+get16-requires c κs = tt
+
+get16-requires-2 : tie.Need-get16-requires-2 Inv-loop μ-loop
+get16-requires-2 c κs = tt
 
 place-fits-requires : tie.Need-place-fits-requires Inv-loop μ-loop
 place-fits-requires c κs = tt
 
 returns : tie.Need-returns Inv-loop μ-loop
 returns c = tt
+
+get16-requires-3 : tie.Need-get16-requires-3 Inv-loop μ-loop
+get16-requires-3 c κs = tt
+
+is-new-requires : tie.Need-is-new-requires Inv-loop μ-loop
+is-new-requires c κs = tt
+
+returns-2 : tie.Need-returns-2 Inv-loop μ-loop
+returns-2 c = tt
 
 add-i : tie.Need-add-i Inv-loop μ-loop
 add-i c = omega arith
@@ -32,10 +41,10 @@ loop-less : tie.Need-loop-less Inv-loop μ-loop
 loop-less c = omega arith
 
 loop-again : tie.Need-loop-again Inv-loop μ-loop
-loop-again c = search needs
+loop-again c = tt
 
-returns-2 : tie.Need-returns-2 Inv-loop μ-loop
-returns-2 c = tt
+returns-3 : tie.Need-returns-3 Inv-loop μ-loop
+returns-3 c = tt
 
 pub places-fit-spec : {M : Type 1} → statement M
 places-fit-spec =
@@ -44,10 +53,14 @@ places-fit-spec =
     Inv-loop
     μ-loop
     loop-holds
-    slice-aggregate-place-fits
+    get16-requires
+    get16-requires-2
     place-fits-requires
     returns
+    get16-requires-3
+    is-new-requires
+    returns-2
     add-i
     loop-less
     loop-again
-    returns-2)
+    returns-3)

@@ -5,13 +5,13 @@ use Rattle.cross_check.proofs.second.labels.first_crossed.Statement.{st
 use Rattle.cross_check.proofs.second.labels.first_crossed.Tie as tie
 
 abbrev Inv-loop : tie.InvT-loop
-Inv-loop t total end r₀ r = Unit {0}
+Inv-loop total end r₀ r = Unit {0}
 
 abbrev μ-loop : tie.MeasureT-loop
-μ-loop t total end r₀ r = end - r
+μ-loop total end r₀ r = end - r
 
-plus-requires : tie.Need-plus-requires Inv-loop μ-loop
-plus-requires c κs = tt
+rows-requires : tie.Need-rows-requires Inv-loop μ-loop
+rows-requires c κs = tt
 
 loop-holds : tie.Need-loop-holds Inv-loop μ-loop
 loop-holds c = tt
@@ -40,7 +40,7 @@ first-crossed-spec =
     (tie.spec
     Inv-loop
     μ-loop
-    plus-requires
+    rows-requires
     loop-holds
     get16-requires
     returns

@@ -1,23 +1,20 @@
--- `second::labels::list_rows` is safe and ends: the length stays, and the measure is what is left to do. Assumes nothing.
+-- `second::labels::list_rows` is safe and ends: nothing has to hold from turn to turn, and the measure is what is left to do. Assumes nothing.
 use Prim.Native.Nat.{_-_}
-use borrow.Author.Needs.{needs}
-use lib.ListN.{length}
-use mathlib.Core.Path.{_≡_, refl}
 use native.Mathlib.Omega.{arith}
 use Rattle.cross_check.proofs.second.labels.list_rows.Statement.{statement}
 use Rattle.cross_check.proofs.second.labels.list_rows.Tie as tie
 
 abbrev Inv-loop : tie.InvT-loop
-Inv-loop t label lowest list₀ end z₀ r₀ list z r = length list ≡ length list₀
+Inv-loop label lowest list₀ end z₀ r₀ list z r = Unit {0}
 
 abbrev μ-loop : tie.MeasureT-loop
-μ-loop t label lowest list₀ end z₀ r₀ list z r = end - r
+μ-loop label lowest list₀ end z₀ r₀ list z r = end - r
 
-plus-requires : tie.Need-plus-requires Inv-loop μ-loop
-plus-requires c κs = tt
+rows-requires : tie.Need-rows-requires Inv-loop μ-loop
+rows-requires c κs = tt
 
 loop-holds : tie.Need-loop-holds Inv-loop μ-loop
-loop-holds c = refl
+loop-holds c = tt
 
 list-row-requires : tie.Need-list-row-requires Inv-loop μ-loop
 list-row-requires c κs = tt
@@ -29,10 +26,7 @@ loop-less : tie.Need-loop-less Inv-loop μ-loop
 loop-less c = omega arith
 
 loop-again : tie.Need-loop-again Inv-loop μ-loop
-loop-again c = search needs
-
-same-length : tie.Need-same-length Inv-loop μ-loop
-same-length c = search needs
+loop-again c = tt
 
 returns : tie.Need-returns Inv-loop μ-loop
 returns c = tt
@@ -43,11 +37,10 @@ list-rows-spec =
     (tie.spec
     Inv-loop
     μ-loop
-    plus-requires
+    rows-requires
     loop-holds
     list-row-requires
     add-r
     loop-less
     loop-again
-    same-length
     returns)

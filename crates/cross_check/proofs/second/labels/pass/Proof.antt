@@ -1,23 +1,20 @@
--- `second::labels::pass` is safe and ends: the length stays, and the measure is what is left to do. Assumes nothing.
+-- `second::labels::pass` is safe and ends: nothing has to hold from turn to turn, and the measure is what is left to do. Assumes nothing.
 use Prim.Native.Nat.{_-_}
-use borrow.Author.Needs.{needs}
-use lib.ListN.{length}
-use mathlib.Core.Path.{_≡_, refl}
 use native.Mathlib.Omega.{arith}
 use Rattle.cross_check.proofs.second.labels.pass.Statement.{statement}
 use Rattle.cross_check.proofs.second.labels.pass.Tie as tie
 
 abbrev Inv-loop : tie.InvT-loop
-Inv-loop n t shifts is-down erased label₀ places joined₀ i₀ label joined i = length label ≡ length label₀
+Inv-loop plan is-down erased label₀ end joined₀ i₀ label joined i = Unit {0}
 
 abbrev μ-loop : tie.MeasureT-loop
-μ-loop n t shifts is-down erased label₀ places joined₀ i₀ label joined i = places - i
+μ-loop plan is-down erased label₀ end joined₀ i₀ label joined i = end - i
 
-times-requires : tie.Need-times-requires Inv-loop μ-loop
-times-requires c κs = tt
+places-requires : tie.Need-places-requires Inv-loop μ-loop
+places-requires c κs = tt
 
 loop-holds : tie.Need-loop-holds Inv-loop μ-loop
-loop-holds c = refl
+loop-holds c = tt
 
 in-turn-requires : tie.Need-in-turn-requires Inv-loop μ-loop
 in-turn-requires c κs = tt
@@ -35,10 +32,7 @@ loop-less : tie.Need-loop-less Inv-loop μ-loop
 loop-less c = omega arith
 
 loop-again : tie.Need-loop-again Inv-loop μ-loop
-loop-again c = search needs
-
-same-length : tie.Need-same-length Inv-loop μ-loop
-same-length c = search needs
+loop-again c = tt
 
 returns : tie.Need-returns Inv-loop μ-loop
 returns c = tt
@@ -49,7 +43,7 @@ pass-spec =
     (tie.spec
     Inv-loop
     μ-loop
-    times-requires
+    places-requires
     loop-holds
     in-turn-requires
     join-requires
@@ -57,5 +51,4 @@ pass-spec =
     add-i
     loop-less
     loop-again
-    same-length
     returns)

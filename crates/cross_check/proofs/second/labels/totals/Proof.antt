@@ -1,26 +1,23 @@
--- `second::labels::totals` is safe and ends: the length stays, and the measure is what is left to do. Assumes nothing.
+-- `second::labels::totals` is safe and ends: nothing has to hold from turn to turn, and the measure is what is left to do. Assumes nothing.
 use Prim.Native.Nat.{_-_}
-use borrow.Author.Needs.{needs}
-use lib.ListN.{length}
-use mathlib.Core.Path.{_≡_, refl}
 use native.Mathlib.Omega.{arith}
 use Rattle.cross_check.proofs.second.labels.totals.Statement.{statement}
 use Rattle.cross_check.proofs.second.labels.totals.Tie as tie
 
 abbrev Inv-loop : tie.InvT-loop
-Inv-loop n t shifts block erased label total₀ end r₀ total r = length total ≡ length total₀
+Inv-loop plan block erased label total₀ end r₀ total r = Unit {0}
 
 abbrev μ-loop : tie.MeasureT-loop
-μ-loop n t shifts block erased label total₀ end r₀ total r = end - r
+μ-loop plan block erased label total₀ end r₀ total r = end - r
 
-plus-requires : tie.Need-plus-requires Inv-loop μ-loop
-plus-requires c κs = tt
+rows-requires : tie.Need-rows-requires Inv-loop μ-loop
+rows-requires c κs = tt
 
 clear16-requires : tie.Need-clear16-requires Inv-loop μ-loop
 clear16-requires c κs = tt
 
 loop-holds : tie.Need-loop-holds Inv-loop μ-loop
-loop-holds c = refl
+loop-holds c = tt
 
 look-requires : tie.Need-look-requires Inv-loop μ-loop
 look-requires c κs = tt
@@ -41,10 +38,7 @@ loop-less : tie.Need-loop-less Inv-loop μ-loop
 loop-less c = omega arith
 
 loop-again : tie.Need-loop-again Inv-loop μ-loop
-loop-again c = search needs
-
-same-length : tie.Need-same-length Inv-loop μ-loop
-same-length c = search needs
+loop-again c = tt
 
 returns : tie.Need-returns Inv-loop μ-loop
 returns c = tt
@@ -55,7 +49,7 @@ totals-spec =
     (tie.spec
     Inv-loop
     μ-loop
-    plus-requires
+    rows-requires
     clear16-requires
     loop-holds
     look-requires
@@ -65,5 +59,4 @@ totals-spec =
     add-r
     loop-less
     loop-again
-    same-length
     returns)

@@ -5,19 +5,19 @@ use Rattle.cross_check.proofs.second.measures.equal_before.Statement.{s
 use Rattle.cross_check.proofs.second.measures.equal_before.Tie as tie
 
 abbrev Inv-loop : tie.InvT-loop
-Inv-loop shifts i j₀ j = Unit {0}
+Inv-loop plan i j₀ j = Unit {0}
 
 abbrev μ-loop : tie.MeasureT-loop
-μ-loop shifts i j₀ j = i - j
+μ-loop plan i j₀ j = i - j
 
 loop-holds : tie.Need-loop-holds Inv-loop μ-loop
 loop-holds c = tt
 
-get16-requires : tie.Need-get16-requires Inv-loop μ-loop
-get16-requires c κs = tt
+shift-requires : tie.Need-shift-requires Inv-loop μ-loop
+shift-requires c κs = tt
 
-get16-requires-2 : tie.Need-get16-requires-2 Inv-loop μ-loop
-get16-requires-2 c κs = tt
+shift-requires-2 : tie.Need-shift-requires-2 Inv-loop μ-loop
+shift-requires-2 c κs = tt
 
 returns : tie.Need-returns Inv-loop μ-loop
 returns c = tt
@@ -41,8 +41,8 @@ equal-before-spec =
     Inv-loop
     μ-loop
     loop-holds
-    get16-requires
-    get16-requires-2
+    shift-requires
+    shift-requires-2
     returns
     add-j
     loop-less

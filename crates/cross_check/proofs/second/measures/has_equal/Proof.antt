@@ -5,10 +5,10 @@ use Rattle.cross_check.proofs.second.measures.has_equal.Statement.{stat
 use Rattle.cross_check.proofs.second.measures.has_equal.Tie as tie
 
 abbrev Inv-loop : tie.InvT-loop
-Inv-loop n shifts i₀ i = Unit {0}
+Inv-loop plan n i₀ i = Unit {0}
 
 abbrev μ-loop : tie.MeasureT-loop
-μ-loop n shifts i₀ i = n - i
+μ-loop plan n i₀ i = n - i
 
 loop-holds : tie.Need-loop-holds Inv-loop μ-loop
 loop-holds c = tt

@@ -5,10 +5,10 @@ use Rattle.cross_check.proofs.second.measures.is_ruler.Statement.{state
 use Rattle.cross_check.proofs.second.measures.is_ruler.Tie as tie
 
 abbrev Inv-loop : tie.InvT-loop
-Inv-loop n t shifts end x₀ x = Unit {0}
+Inv-loop plan end x₀ x = Unit {0}
 
 abbrev μ-loop : tie.MeasureT-loop
-μ-loop n t shifts end x₀ x = end - x
+μ-loop plan end x₀ x = end - x
 
 times-requires : tie.Need-times-requires Inv-loop μ-loop
 times-requires c κs = tt

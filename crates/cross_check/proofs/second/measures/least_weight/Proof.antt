@@ -5,13 +5,19 @@ use Rattle.cross_check.proofs.second.measures.least_weight.Statement.{s
 use Rattle.cross_check.proofs.second.measures.least_weight.Tie as tie
 
 abbrev Inv-loop : tie.InvT-loop
-Inv-loop places t shifts end found₀ word₀ found word = Unit {0}
+Inv-loop plan end found₀ word₀ found word = Unit {0}
 
 abbrev μ-loop : tie.MeasureT-loop
-μ-loop places t shifts end found₀ word₀ found word = end - word
+μ-loop plan end found₀ word₀ found word = end - word
+
+places-requires : tie.Need-places-requires Inv-loop μ-loop
+places-requires c κs = tt
 
 bit-of-requires : tie.Need-bit-of-requires Inv-loop μ-loop
 bit-of-requires c κs = tt
+
+places-requires-2 : tie.Need-places-requires-2 Inv-loop μ-loop
+places-requires-2 c κs = tt
 
 plus-requires : tie.Need-plus-requires Inv-loop μ-loop
 plus-requires c κs = tt
@@ -40,7 +46,9 @@ least-weight-spec =
     (tie.spec
     Inv-loop
     μ-loop
+    places-requires
     bit-of-requires
+    places-requires-2
     plus-requires
     loop-holds
     weighed-requires

@@ -5,10 +5,10 @@ use Rattle.cross_check.proofs.second.measures.meets_before.Statement.{s
 use Rattle.cross_check.proofs.second.measures.meets_before.Tie as tie
 
 abbrev Inv-loop : tie.InvT-loop
-Inv-loop n t shifts x d y₀ y = Unit {0}
+Inv-loop plan x d y₀ y = Unit {0}
 
 abbrev μ-loop : tie.MeasureT-loop
-μ-loop n t shifts x d y₀ y = x - y
+μ-loop plan x d y₀ y = x - y
 
 difference-requires : tie.Need-difference-requires Inv-loop μ-loop
 difference-requires c κs = tt

@@ -5,13 +5,13 @@ use Rattle.cross_check.proofs.second.measures.neighbour.Statement.{stat
 use Rattle.cross_check.proofs.second.measures.neighbour.Tie as tie
 
 abbrev Inv-loop : tie.InvT-loop
-Inv-loop n t shifts found₀ j₀ found j = Unit {0}
+Inv-loop plan n found₀ j₀ found j = Unit {0}
 
 abbrev μ-loop : tie.MeasureT-loop
-μ-loop n t shifts found₀ j₀ found j = n - j
+μ-loop plan n found₀ j₀ found j = n - j
 
-plus-requires : tie.Need-plus-requires Inv-loop μ-loop
-plus-requires c κs = tt
+rows-requires : tie.Need-rows-requires Inv-loop μ-loop
+rows-requires c κs = tt
 
 loop-holds : tie.Need-loop-holds Inv-loop μ-loop
 loop-holds c = tt
@@ -43,7 +43,7 @@ neighbour-spec =
     (tie.spec
     Inv-loop
     μ-loop
-    plus-requires
+    rows-requires
     loop-holds
     minus-requires
     figure-requires

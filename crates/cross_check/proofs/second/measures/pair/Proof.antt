@@ -5,16 +5,16 @@ use Rattle.cross_check.proofs.second.measures.pair.Statement.{statement
 use Rattle.cross_check.proofs.second.measures.pair.Tie as tie
 
 abbrev Inv-loop : tie.InvT-loop
-Inv-loop n t shifts end found₀ x₀ found x = Unit {0}
+Inv-loop plan end found₀ x₀ found x = Unit {0}
 
 abbrev μ-loop : tie.MeasureT-loop
-μ-loop n t shifts end found₀ x₀ found x = end - x
+μ-loop plan end found₀ x₀ found x = end - x
 
 times-requires : tie.Need-times-requires Inv-loop μ-loop
 times-requires c κs = tt
 
-plus-requires : tie.Need-plus-requires Inv-loop μ-loop
-plus-requires c κs = tt
+rows-requires : tie.Need-rows-requires Inv-loop μ-loop
+rows-requires c κs = tt
 
 loop-holds : tie.Need-loop-holds Inv-loop μ-loop
 loop-holds c = tt
@@ -41,7 +41,7 @@ pair-spec =
     Inv-loop
     μ-loop
     times-requires
-    plus-requires
+    rows-requires
     loop-holds
     with-pair-requires
     add-x

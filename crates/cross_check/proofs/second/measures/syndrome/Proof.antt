@@ -5,10 +5,13 @@ use Rattle.cross_check.proofs.second.measures.syndrome.Statement.{state
 use Rattle.cross_check.proofs.second.measures.syndrome.Tie as tie
 
 abbrev Inv-loop : tie.InvT-loop
-Inv-loop places t shifts word rows₀ c₀ rows c = Unit {0}
+Inv-loop plan word end sums₀ c₀ sums c = Unit {0}
 
 abbrev μ-loop : tie.MeasureT-loop
-μ-loop places t shifts word rows₀ c₀ rows c = places - c
+μ-loop plan word end sums₀ c₀ sums c = end - c
+
+places-requires : tie.Need-places-requires Inv-loop μ-loop
+places-requires c κs = tt
 
 loop-holds : tie.Need-loop-holds Inv-loop μ-loop
 loop-holds c = tt
@@ -46,6 +49,7 @@ syndrome-spec =
     (tie.spec
     Inv-loop
     μ-loop
+    places-requires
     loop-holds
     bit-of-requires
     top-requires

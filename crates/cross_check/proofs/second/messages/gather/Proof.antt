@@ -1,20 +1,17 @@
--- `second::messages::gather` is safe and ends: the length stays, and the measure is what is left to do. Assumes nothing.
+-- `second::messages::gather` is safe and ends: nothing has to hold from turn to turn, and the measure is what is left to do. Assumes nothing.
 use Prim.Native.Nat.{_-_}
-use borrow.Author.Needs.{needs}
-use lib.ListN.{length}
-use mathlib.Core.Path.{_≡_, refl}
 use native.Mathlib.Omega.{arith}
 use Rattle.cross_check.proofs.second.messages.gather.Statement.{statement}
 use Rattle.cross_check.proofs.second.messages.gather.Tie as tie
 
 abbrev Inv-loop : tie.InvT-loop
-Inv-loop places parity block message₀ i₀ c₀ message i c = length message ≡ length message₀
+Inv-loop end parity block message₀ i₀ c₀ message i c = Unit {0}
 
 abbrev μ-loop : tie.MeasureT-loop
-μ-loop places parity block message₀ i₀ c₀ message i c = places - c
+μ-loop end parity block message₀ i₀ c₀ message i c = end - c
 
 loop-holds : tie.Need-loop-holds Inv-loop μ-loop
-loop-holds c = refl
+loop-holds c = tt
 
 gather-one-requires : tie.Need-gather-one-requires Inv-loop μ-loop
 gather-one-requires c κs = tt
@@ -26,10 +23,7 @@ loop-less : tie.Need-loop-less Inv-loop μ-loop
 loop-less c = omega arith
 
 loop-again : tie.Need-loop-again Inv-loop μ-loop
-loop-again c = search needs
-
-same-length : tie.Need-same-length Inv-loop μ-loop
-same-length c = search needs
+loop-again c = tt
 
 returns : tie.Need-returns Inv-loop μ-loop
 returns c = tt
@@ -37,13 +31,4 @@ returns c = tt
 pub gather-spec : {M : Type 1} → statement M
 gather-spec =
     tie.close
-    (tie.spec
-    Inv-loop
-    μ-loop
-    loop-holds
-    gather-one-requires
-    add-c
-    loop-less
-    loop-again
-    same-length
-    returns)
+    (tie.spec Inv-loop μ-loop loop-holds gather-one-requires add-c loop-less loop-again returns)

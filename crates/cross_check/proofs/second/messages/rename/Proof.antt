@@ -1,23 +1,17 @@
--- `second::messages::rename` is safe and ends: the length stays, and the measure is what is left to do. Assumes nothing.
+-- `second::messages::rename` is safe and ends: nothing has to hold from turn to turn, and the measure is what is left to do. Assumes nothing.
 use Prim.Native.Nat.{_-_}
-use borrow.Author.Needs.{needs}
-use lib.ListN.{length}
-use mathlib.Core.Path.{_≡_, refl}
 use native.Mathlib.Omega.{arith}
 use Rattle.cross_check.proofs.second.messages.rename.Statement.{statement}
 use Rattle.cross_check.proofs.second.messages.rename.Tie as tie
 
 abbrev Inv-loop : tie.InvT-loop
-Inv-loop t from to label₀ end r₀ label r = length label ≡ length label₀
+Inv-loop end from to label₀ r₀ label r = Unit {0}
 
 abbrev μ-loop : tie.MeasureT-loop
-μ-loop t from to label₀ end r₀ label r = end - r
-
-plus-requires : tie.Need-plus-requires Inv-loop μ-loop
-plus-requires c κs = tt
+μ-loop end from to label₀ r₀ label r = end - r
 
 loop-holds : tie.Need-loop-holds Inv-loop μ-loop
-loop-holds c = refl
+loop-holds c = tt
 
 rename-row-requires : tie.Need-rename-row-requires Inv-loop μ-loop
 rename-row-requires c κs = tt
@@ -29,10 +23,7 @@ loop-less : tie.Need-loop-less Inv-loop μ-loop
 loop-less c = omega arith
 
 loop-again : tie.Need-loop-again Inv-loop μ-loop
-loop-again c = search needs
-
-same-length : tie.Need-same-length Inv-loop μ-loop
-same-length c = search needs
+loop-again c = tt
 
 returns : tie.Need-returns Inv-loop μ-loop
 returns c = tt
@@ -40,14 +31,4 @@ returns c = tt
 pub rename-spec : {M : Type 1} → statement M
 rename-spec =
     tie.close
-    (tie.spec
-    Inv-loop
-    μ-loop
-    plus-requires
-    loop-holds
-    rename-row-requires
-    add-r
-    loop-less
-    loop-again
-    same-length
-    returns)
+    (tie.spec Inv-loop μ-loop loop-holds rename-row-requires add-r loop-less loop-again returns)

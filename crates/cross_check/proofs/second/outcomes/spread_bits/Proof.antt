@@ -1,20 +1,17 @@
--- `second::outcomes::spread_bits` is safe and ends: the length stays, and the measure is what is left to do. Assumes nothing.
+-- `second::outcomes::spread_bits` is safe and ends: nothing has to hold from turn to turn, and the measure is what is left to do. Assumes nothing.
 use Prim.Native.Nat.{_-_}
-use borrow.Author.Needs.{needs}
-use lib.ListN.{length}
-use mathlib.Core.Path.{_≡_, refl}
 use native.Mathlib.Omega.{arith}
 use Rattle.cross_check.proofs.second.outcomes.spread_bits.Statement.{statement}
 use Rattle.cross_check.proofs.second.outcomes.spread_bits.Tie as tie
 
 abbrev Inv-loop : tie.InvT-loop
-Inv-loop places marks erased₀ c₀ erased c = length erased ≡ length erased₀
+Inv-loop end marks erased₀ c₀ erased c = Unit {0}
 
 abbrev μ-loop : tie.MeasureT-loop
-μ-loop places marks erased₀ c₀ erased c = places - c
+μ-loop end marks erased₀ c₀ erased c = end - c
 
 loop-holds : tie.Need-loop-holds Inv-loop μ-loop
-loop-holds c = refl
+loop-holds c = tt
 
 bit-requires : tie.Need-bit-requires Inv-loop μ-loop
 bit-requires c κs = tt
@@ -29,10 +26,7 @@ loop-less : tie.Need-loop-less Inv-loop μ-loop
 loop-less c = omega arith
 
 loop-again : tie.Need-loop-again Inv-loop μ-loop
-loop-again c = search needs
-
-same-length : tie.Need-same-length Inv-loop μ-loop
-same-length c = search needs
+loop-again c = tt
 
 returns : tie.Need-returns Inv-loop μ-loop
 returns c = tt
@@ -49,5 +43,4 @@ spread-bits-spec =
     add-c
     loop-less
     loop-again
-    same-length
     returns)

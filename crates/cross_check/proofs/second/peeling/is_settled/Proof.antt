@@ -5,13 +5,13 @@ use Rattle.cross_check.proofs.second.peeling.is_settled.Statement.{stat
 use Rattle.cross_check.proofs.second.peeling.is_settled.Tie as tie
 
 abbrev Inv-loop : tie.InvT-loop
-Inv-loop n t shifts block erased end r₀ r = Unit {0}
+Inv-loop plan block erased end r₀ r = Unit {0}
 
 abbrev μ-loop : tie.MeasureT-loop
-μ-loop n t shifts block erased end r₀ r = end - r
+μ-loop plan block erased end r₀ r = end - r
 
-plus-requires : tie.Need-plus-requires Inv-loop μ-loop
-plus-requires c κs = tt
+rows-requires : tie.Need-rows-requires Inv-loop μ-loop
+rows-requires c κs = tt
 
 loop-holds : tie.Need-loop-holds Inv-loop μ-loop
 loop-holds c = tt
@@ -43,7 +43,7 @@ is-settled-spec =
     (tie.spec
     Inv-loop
     μ-loop
-    plus-requires
+    rows-requires
     loop-holds
     look-requires
     returns

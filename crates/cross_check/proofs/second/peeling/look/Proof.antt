@@ -5,10 +5,10 @@ use Rattle.cross_check.proofs.second.peeling.look.Statement.{statement}
 use Rattle.cross_check.proofs.second.peeling.look.Tie as tie
 
 abbrev Inv-loop : tie.InvT-loop
-Inv-loop n t shifts block erased r found₀ j₀ found j = Unit {0}
+Inv-loop plan block erased r n found₀ j₀ found j = Unit {0}
 
 abbrev μ-loop : tie.MeasureT-loop
-μ-loop n t shifts block erased r found₀ j₀ found j = n - j
+μ-loop plan block erased r n found₀ j₀ found j = n - j
 
 loop-holds : tie.Need-loop-holds Inv-loop μ-loop
 loop-holds c = tt

@@ -1,23 +1,20 @@
--- `second::peeling::pass` is safe and ends: the lengths stay, and the measure is what is left to do. Assumes nothing.
+-- `second::peeling::pass` is safe and ends: nothing has to hold from turn to turn, and the measure is what is left to do. Assumes nothing.
 use Prim.Native.Nat.{_-_}
-use borrow.Author.Needs.{needs}
-use lib.ListN.{length}
-use mathlib.Core.Path.{_≡_, refl}
 use native.Mathlib.Omega.{arith}
 use Rattle.cross_check.proofs.second.peeling.pass.Statement.{statement}
 use Rattle.cross_check.proofs.second.peeling.pass.Tie as tie
 
 abbrev Inv-loop : tie.InvT-loop
-Inv-loop n t shifts is-down block₀ erased₀ end settled₀ i₀ block erased settled i = (length block ≡ length block₀) × (length erased ≡ length erased₀)
+Inv-loop plan is-down block₀ erased₀ end settled₀ i₀ block erased settled i = Unit {0}
 
 abbrev μ-loop : tie.MeasureT-loop
-μ-loop n t shifts is-down block₀ erased₀ end settled₀ i₀ block erased settled i = end - i
+μ-loop plan is-down block₀ erased₀ end settled₀ i₀ block erased settled i = end - i
 
-plus-requires : tie.Need-plus-requires Inv-loop μ-loop
-plus-requires c κs = tt
+rows-requires : tie.Need-rows-requires Inv-loop μ-loop
+rows-requires c κs = tt
 
 loop-holds : tie.Need-loop-holds Inv-loop μ-loop
-loop-holds c = (refl, refl)
+loop-holds c = tt
 
 in-turn-requires : tie.Need-in-turn-requires Inv-loop μ-loop
 in-turn-requires c κs = tt
@@ -25,8 +22,8 @@ in-turn-requires c κs = tt
 settle-row-requires : tie.Need-settle-row-requires Inv-loop μ-loop
 settle-row-requires c κs = tt
 
-plus-requires-2 : tie.Need-plus-requires-2 Inv-loop μ-loop
-plus-requires-2 c κs = tt
+plus-requires : tie.Need-plus-requires Inv-loop μ-loop
+plus-requires c κs = tt
 
 add-i : tie.Need-add-i Inv-loop μ-loop
 add-i c = omega arith
@@ -35,13 +32,7 @@ loop-less : tie.Need-loop-less Inv-loop μ-loop
 loop-less c = omega arith
 
 loop-again : tie.Need-loop-again Inv-loop μ-loop
-loop-again c = search needs
-
-same-length : tie.Need-same-length Inv-loop μ-loop
-same-length c = search needs
-
-same-length-2 : tie.Need-same-length-2 Inv-loop μ-loop
-same-length-2 c = search needs
+loop-again c = tt
 
 returns : tie.Need-returns Inv-loop μ-loop
 returns c = tt
@@ -52,14 +43,12 @@ pass-spec =
     (tie.spec
     Inv-loop
     μ-loop
-    plus-requires
+    rows-requires
     loop-holds
     in-turn-requires
     settle-row-requires
-    plus-requires-2
+    plus-requires
     add-i
     loop-less
     loop-again
-    same-length
-    same-length-2
     returns)

@@ -1,17 +1,15 @@
--- `second::plans::power_shifts` is safe and ends: the length stays, and the measure is what is left to do. Assumes nothing.
+-- `second::plans::power_shifts` is safe and ends: nothing has to hold from turn to turn, and the measure is what is left to do. Assumes nothing.
 use Prim.Native.Nat.{_-_}
 use borrow.Author.Needs.{needs}
-use lib.ListN.{length}
-use mathlib.Core.Path.{_≡_, refl}
 use native.Mathlib.Omega.{arith}
 use Rattle.cross_check.proofs.second.plans.power_shifts.Statement.{statement}
 use Rattle.cross_check.proofs.second.plans.power_shifts.Tie as tie
 
 abbrev Inv-loop : tie.InvT-loop
-Inv-loop n t q shifts₀ base p₀ j₀ shifts p j = length shifts ≡ length shifts₀
+Inv-loop n t q base shifts₀ p₀ j₀ shifts p j = Unit {0}
 
 abbrev μ-loop : tie.MeasureT-loop
-μ-loop n t q shifts₀ base p₀ j₀ shifts p j = n - j
+μ-loop n t q base shifts₀ p₀ j₀ shifts p j = 32 - j
 
 remainder-requires : tie.Need-remainder-requires Inv-loop μ-loop
 remainder-requires c κs = tt
@@ -20,10 +18,16 @@ remainder-requires-2 : tie.Need-remainder-requires-2 Inv-loop μ-loop
 remainder-requires-2 c κs = tt
 
 loop-holds : tie.Need-loop-holds Inv-loop μ-loop
-loop-holds c = refl
+loop-holds c = tt
 
-put16-requires : tie.Need-put16-requires Inv-loop μ-loop
-put16-requires c κs = tt
+within-requires : tie.Need-within-requires Inv-loop μ-loop
+within-requires c κs = tt
+
+mul-shifts : tie.Need-mul-shifts Inv-loop μ-loop
+mul-shifts c = search needs
+
+array-write-shifts : tie.Need-array-write-shifts Inv-loop μ-loop
+array-write-shifts c = omega arith
 
 times-requires : tie.Need-times-requires Inv-loop μ-loop
 times-requires c κs = tt
@@ -38,10 +42,7 @@ loop-less : tie.Need-loop-less Inv-loop μ-loop
 loop-less c = omega arith
 
 loop-again : tie.Need-loop-again Inv-loop μ-loop
-loop-again c = search needs
-
-same-length : tie.Need-same-length Inv-loop μ-loop
-same-length c = search needs
+loop-again c = tt
 
 returns : tie.Need-returns Inv-loop μ-loop
 returns c = tt
@@ -55,11 +56,12 @@ power-shifts-spec =
     remainder-requires
     remainder-requires-2
     loop-holds
-    put16-requires
+    within-requires
+    mul-shifts
+    array-write-shifts
     times-requires
     remainder-requires-3
     add-j
     loop-less
     loop-again
-    same-length
     returns)

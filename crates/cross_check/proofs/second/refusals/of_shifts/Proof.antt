@@ -5,16 +5,16 @@ use Rattle.cross_check.proofs.second.refusals.of_shifts.Statement.{stat
 use Rattle.cross_check.proofs.second.refusals.of_shifts.Tie as tie
 
 abbrev Inv-loop : tie.InvT-loop
-Inv-loop n t shifts j₀ j = Unit {0}
+Inv-loop plan n j₀ j = Unit {0}
 
 abbrev μ-loop : tie.MeasureT-loop
-μ-loop n t shifts j₀ j = n - j
+μ-loop plan n j₀ j = n - j
 
 loop-holds : tie.Need-loop-holds Inv-loop μ-loop
 loop-holds c = tt
 
-get16-requires : tie.Need-get16-requires Inv-loop μ-loop
-get16-requires c κs = tt
+shift-requires : tie.Need-shift-requires Inv-loop μ-loop
+shift-requires c κs = tt
 
 returns : tie.Need-returns Inv-loop μ-loop
 returns c = tt
@@ -38,7 +38,7 @@ of-shifts-spec =
     Inv-loop
     μ-loop
     loop-holds
-    get16-requires
+    shift-requires
     returns
     add-j
     loop-less

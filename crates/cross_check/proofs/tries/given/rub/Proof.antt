@@ -1,14 +1,11 @@
--- `tries::given::rub` is safe and ends: the length stays, and the measure is what is left to do. Assumes nothing.
+-- `tries::given::rub` is safe and ends: nothing has to hold from turn to turn, and the measure is what is left to do. Assumes nothing.
 use Prim.Native.Nat.{_-_}
-use borrow.Author.Needs.{needs}
-use lib.ListN.{length}
-use mathlib.Core.Path.{_≡_, refl}
 use native.Mathlib.Omega.{arith}
 use Rattle.cross_check.proofs.tries.given.rub.Statement.{statement}
 use Rattle.cross_check.proofs.tries.given.rub.Tie as tie
 
 abbrev Inv-loop : tie.InvT-loop
-Inv-loop marks seed block₀ places c₀ block c = length block ≡ length block₀
+Inv-loop marks seed block₀ places c₀ block c = Unit {0}
 
 abbrev μ-loop : tie.MeasureT-loop
 μ-loop marks seed block₀ places c₀ block c = places - c
@@ -17,7 +14,7 @@ least-of-places-requires : tie.Need-least-of-places-requires Inv-loop μ-loop
 least-of-places-requires c κs = tt
 
 loop-holds : tie.Need-loop-holds Inv-loop μ-loop
-loop-holds c = refl
+loop-holds c = tt
 
 rub-one-requires : tie.Need-rub-one-requires Inv-loop μ-loop
 rub-one-requires c κs = tt
@@ -29,10 +26,7 @@ loop-less : tie.Need-loop-less Inv-loop μ-loop
 loop-less c = omega arith
 
 loop-again : tie.Need-loop-again Inv-loop μ-loop
-loop-again c = search needs
-
-same-length : tie.Need-same-length Inv-loop μ-loop
-same-length c = search needs
+loop-again c = tt
 
 returns : tie.Need-returns Inv-loop μ-loop
 returns c = tt
@@ -49,5 +43,4 @@ rub-spec =
     add-c
     loop-less
     loop-again
-    same-length
     returns)

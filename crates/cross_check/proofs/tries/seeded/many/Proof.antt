@@ -1,20 +1,17 @@
--- `tries::seeded::many` is safe and ends: the length stays, and the measure is what is left to do. Assumes nothing.
+-- `tries::seeded::many` is safe and ends: nothing has to hold from turn to turn, and the measure is what is left to do. Assumes nothing.
 use Prim.Native.Nat.{_-_}
-use borrow.Author.Needs.{needs}
-use lib.ListN.{length}
-use mathlib.Core.Path.{_≡_, refl}
 use native.Mathlib.Omega.{arith}
 use Rattle.cross_check.proofs.tries.seeded.many.Statement.{statement}
 use Rattle.cross_check.proofs.tries.seeded.many.Tie as tie
 
 abbrev Inv-loop : tie.InvT-loop
-Inv-loop kind most-n most-t cases tally₀ i₀ tally i = length tally ≡ length tally₀
+Inv-loop kind most-n most-t cases tally₀ i₀ tally i = Unit {0}
 
 abbrev μ-loop : tie.MeasureT-loop
 μ-loop kind most-n most-t cases tally₀ i₀ tally i = cases - i
 
 loop-holds : tie.Need-loop-holds Inv-loop μ-loop
-loop-holds c = refl
+loop-holds c = tt
 
 seeded-requires : tie.Need-seeded-requires Inv-loop μ-loop
 seeded-requires c κs = tt
@@ -32,10 +29,7 @@ loop-less : tie.Need-loop-less Inv-loop μ-loop
 loop-less c = omega arith
 
 loop-again : tie.Need-loop-again Inv-loop μ-loop
-loop-again c = search needs
-
-same-length : tie.Need-same-length Inv-loop μ-loop
-same-length c = search needs
+loop-again c = tt
 
 returns : tie.Need-returns Inv-loop μ-loop
 returns c = tt
@@ -53,5 +47,4 @@ many-spec =
     add-i
     loop-less
     loop-again
-    same-length
     returns)
