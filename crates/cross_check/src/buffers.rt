@@ -61,38 +61,35 @@ pub(crate) fn copy8(k: usize, from: &Bytes, to: &mut Bytes) {
 
 // Whether the entries from one index up to another are 0.
 pub(crate) fn zeros16(s: &Words, from: usize, end: usize) -> bool {
+    let mut all = true;
     let mut i = from;
     while i < end {
-        if get16(s, i) != 0 {
-            return false;
-        }
+        all = all & (get16(s, i) == 0);
         i += 1;
     }
-    true
+    all
 }
 
 // Whether the first k bytes are the same.
 pub(crate) fn same8(k: usize, a: &Bytes, b: &Bytes) -> bool {
+    let mut all = true;
     let mut i: usize = 0;
     while i < k {
-        if get8(a, i) != get8(b, i) {
-            return false;
-        }
+        all = all & (get8(a, i) == get8(b, i));
         i += 1;
     }
-    true
+    all
 }
 
 // Whether the first k entries are the same.
 pub(crate) fn same16(k: usize, a: &Words, b: &Words) -> bool {
+    let mut all = true;
     let mut i: usize = 0;
     while i < k {
-        if get16(a, i) != get16(b, i) {
-            return false;
-        }
+        all = all & (get16(a, i) == get16(b, i));
         i += 1;
     }
-    true
+    all
 }
 
 // The bit of place c.

@@ -34,67 +34,44 @@ fn is_new(c: usize, met: &mut Bytes) -> bool {
 
 // Whether a place of the list is erased, and not below the first.
 fn place_fits(plan: Plan, marks: &Bytes, first: usize, c: usize) -> bool {
-    if places(plan) <= c {
-        return false;
-    }
-    if bit(marks, c) == 0 {
-        return false;
-    }
-    first <= c
+    (c < places(plan)) & (bit(marks, c) != 0) & (first <= c)
 }
 
 fn places_fit(plan: Plan, marks: &Bytes, list: &Words, z: usize) -> bool {
     let mut met = [0u8; 32784];
+    let first = get16(list, 0);
+    let mut all = true;
     let mut i: usize = 0;
     while i < z {
-        if !place_fits(plan, marks, get16(list, 0), get16(list, i)) {
-            return false;
-        }
-        if !is_new(get16(list, i), &mut met) {
-            return false;
-        }
+        let c = get16(list, i);
+        all = all & place_fits(plan, marks, first, c) & is_new(c, &mut met);
         i += 1;
     }
-    true
+    all
 }
 
-// Whether the i-th place and the next one share the row by which the list goes on.
-fn row_fits(plan: Plan, list: &Words, z: usize, i: usize) -> bool {
-    let next = get16(list, remainder(plus(i, 1), z));
-    row_of(plan, i, get16(list, i)) == row_of(plan, i, next)
+// Whether the place after the i-th has the row by which the list goes on.
+fn row_fits(plan: Plan, list: &Words, z: usize, i: usize, r: usize) -> bool {
+    row_of(plan, i, get16(list, remainder(plus(i, 1), z))) == r
 }
 
 fn rows_fit(plan: Plan, list: &Words, z: usize) -> bool {
     let mut passed = [0u8; 32784];
+    let mut all = true;
     let mut i: usize = 0;
     while i < z {
-        if !row_fits(plan, list, z, i) {
-            return false;
-        }
-        if !is_new(row_of(plan, i, get16(list, i)), &mut passed) {
-            return false;
-        }
+        let r = row_of(plan, i, get16(list, i));
+        all = all & row_fits(plan, list, z, i, r) & is_new(r, &mut passed);
         i += 1;
     }
-    true
+    all
 }
 
 // Whether the list is a cycle of z erased places, then zeros.
 pub(crate) fn is_cycle(plan: Plan, marks: &Bytes, list: &Words, z: usize) -> bool {
-    if z < 2 {
+    let end = rows(plan);
+    if (z < 2) | (z % 2 != 0) | (end < z) {
         return false;
     }
-    if z % 2 != 0 {
-        return false;
-    }
-    if rows(plan) < z {
-        return false;
-    }
-    if !places_fit(plan, marks, list, z) {
-        return false;
-    }
-    if !rows_fit(plan, list, z) {
-        return false;
-    }
-    zeros16(list, z, rows(plan))
+    places_fit(plan, marks, list, z) & rows_fit(plan, list, z) & zeros16(list, z, end)
 }

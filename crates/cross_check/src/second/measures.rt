@@ -27,10 +27,7 @@ fn greatest(a: usize, t: usize) -> usize {
 }
 
 fn larger(a: usize, t: usize, d: usize, found: usize) -> usize {
-    if remainder(a, d) != 0 {
-        return found;
-    }
-    if remainder(t, d) != 0 {
+    if (remainder(a, d) != 0) | (remainder(t, d) != 0) {
         return found;
     }
     d
@@ -98,50 +95,47 @@ fn difference(plan: Plan, x: usize) -> usize {
 
 fn meets_before(plan: Plan, x: usize) -> bool {
     let d = difference(plan, x);
+    let mut any = false;
     let mut y: usize = 0;
     while y < x {
-        if difference(plan, y) == d {
-            return true;
-        }
+        any = any | (difference(plan, y) == d);
         y += 1;
     }
-    false
+    any
 }
 
 // Whether all differences p_i - p_j mod t, i and j distinct, are distinct.
 fn is_ruler(plan: Plan) -> bool {
     let end = times(plan.n, plan.n);
+    let mut any = false;
     let mut x: usize = 0;
     while x < end {
-        if meets_before(plan, x) {
-            return false;
-        }
+        any = any | meets_before(plan, x);
         x += 1;
     }
-    true
+    !any
 }
 
 fn equal_before(plan: Plan, i: usize) -> bool {
+    let p = shift(plan, i);
+    let mut any = false;
     let mut j: usize = 0;
     while j < i {
-        if shift(plan, i) == shift(plan, j) {
-            return true;
-        }
+        any = any | (shift(plan, j) == p);
         j += 1;
     }
-    false
+    any
 }
 
 fn has_equal(plan: Plan) -> bool {
     let n = plan.n;
+    let mut any = false;
     let mut i: usize = 0;
     while i < n {
-        if equal_before(plan, i) {
-            return true;
-        }
+        any = any | equal_before(plan, i);
         i += 1;
     }
-    false
+    any
 }
 
 pub(crate) fn distance(plan: Plan) -> usize {

@@ -30,12 +30,19 @@ fn spread_bits(end: usize, marks: &Bytes, erased: &mut Bytes) {
     }
 }
 
-// Settles what the passes can of a copy of the block, and answers whether that is all and every row then sums to 0.
-fn settles(plan: Plan, erased: &Bytes, work: &mut Bytes) -> bool {
+// Whether the passes settle all that is erased and every row then sums to 0. The block is written only then.
+fn settles(plan: Plan, erased: &Bytes, block: &mut Bytes) -> bool {
+    let mut work = [0u8; 32784];
     let mut left = [0u8; 32784];
-    copy8(places(plan), erased, &mut left);
-    settle(plan, &mut *work, &mut left);
-    is_settled(plan, &*work, &left)
+    let end = places(plan);
+    copy8(end, &*block, &mut work);
+    copy8(end, erased, &mut left);
+    settle(plan, &mut work, &mut left);
+    if !is_settled(plan, &work, &left) {
+        return false;
+    }
+    copy8(end, &work, block);
+    true
 }
 
 // Crossed with its list, or loose.
@@ -55,15 +62,11 @@ fn explain(plan: Plan, erased: &Bytes, block: &Bytes, list: &mut Words) -> Outco
     Outcome { number: 5, count }
 }
 
-// The block is written only where it is recovered.
 pub(crate) fn recover(plan: Plan, marks: &Bytes, block: &mut Bytes, list: &mut Words) -> Outcome {
     let mut erased = [0u8; 32784];
-    let mut work = [0u8; 32784];
     spread_bits(places(plan), marks, &mut erased);
-    copy8(places(plan), &*block, &mut work);
     clear16(&mut *list, rows(plan));
-    if settles(plan, &erased, &mut work) {
-        copy8(places(plan), &work, block);
+    if settles(plan, &erased, &mut *block) {
         return Outcome {
             number: 0,
             count: 0,

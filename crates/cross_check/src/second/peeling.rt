@@ -93,16 +93,12 @@ pub(crate) fn settle(plan: Plan, block: &mut Bytes, erased: &mut Bytes) {
 // Whether no place is erased and every row sums to 0.
 pub(crate) fn is_settled(plan: Plan, block: &Bytes, erased: &Bytes) -> bool {
     let end = rows(plan);
+    let mut all = true;
     let mut r: usize = 0;
     while r < end {
         let found = look(plan, block, erased, r);
-        if found.erased != 0 {
-            return false;
-        }
-        if found.sum != 0 {
-            return false;
-        }
+        all = all & (found.erased == 0) & (found.sum == 0);
         r += 1;
     }
-    true
+    all
 }

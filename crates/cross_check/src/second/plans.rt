@@ -158,10 +158,7 @@ pub(crate) fn of(plan: Plan, lent: usize) -> Making {
     if number == 1 {
         return refused(1);
     }
-    if lent != plan.n {
-        return refused(2);
-    }
-    if number != 0 {
+    if (lent != plan.n) | (number != 0) {
         return refused(2);
     }
     made(plan.n, plan.t, first_shifts(plan))
@@ -199,22 +196,18 @@ pub(crate) fn straight(n: usize, t: usize) -> Making {
 }
 
 fn divides(d: usize, t: usize, q: usize) -> bool {
-    if remainder(t, d) != 0 {
-        return false;
-    }
-    remainder(q, d) == 0
+    (remainder(t, d) == 0) & (remainder(q, d) == 0)
 }
 
 // Whether a number above 1 divides both. No divisor of t is above t.
 fn have_factor(t: usize, q: usize) -> bool {
+    let mut any = false;
     let mut d: usize = 1;
     while d < t {
         d += 1;
-        if divides(d, t, q) {
-            return true;
-        }
+        any = any | divides(d, t, q);
     }
-    false
+    any
 }
 
 fn power_shifts(n: usize, t: usize, q: usize) -> [u16; 32] {
@@ -232,26 +225,14 @@ fn power_shifts(n: usize, t: usize, q: usize) -> [u16; 32] {
 
 // Whether q is above 1, and neither q nor q - 1 has a factor in common with t.
 fn is_base(t: usize, q: usize) -> bool {
-    if q < 2 {
-        return false;
-    }
-    if have_factor(t, q) {
-        return false;
-    }
-    !have_factor(t, minus(q, 1))
+    (1 < q) & !have_factor(t, q) & !have_factor(t, minus(q, 1))
 }
 
 pub(crate) fn powers(n: usize, t: usize, q: usize) -> Making {
     if of_size(n, t) != 0 {
         return refused(1);
     }
-    if n < 3 {
-        return refused(10);
-    }
-    if t < n {
-        return refused(10);
-    }
-    if !is_base(t, q) {
+    if (n < 3) | (t < n) | !is_base(t, q) {
         return refused(10);
     }
     made(n, t, power_shifts(n, t, q))
@@ -288,16 +269,10 @@ fn ruler_shifts(n: usize) -> [u16; 32] {
 }
 
 pub(crate) fn ruler(n: usize) -> Making {
-    if n < 2 {
+    if (n < 2) | (32 < n) {
         return refused(1);
     }
-    if 32 < n {
-        return refused(1);
-    }
-    if n < 3 {
-        return refused(10);
-    }
-    if 14 < n {
+    if (n < 3) | (14 < n) {
         return refused(10);
     }
     made(n, ruler_entry(ruler_at(n)), ruler_shifts(n))

@@ -9,35 +9,21 @@ use plan::Plan;
 
 // 1 where n, t or n × t is out of bounds.
 pub(crate) fn of_size(n: usize, t: usize) -> usize {
-    if n < 2 {
-        return 1;
-    }
-    if 32 < n {
-        return 1;
-    }
-    if t < 1 {
-        return 1;
-    }
-    if 2048 < t {
-        return 1;
-    }
-    if 32768 < times(n, t) {
-        return 1;
-    }
-    0
+    let is_outside = (n < 2) | (32 < n) | (t < 1) | (2048 < t) | (32768 < times(n, t));
+    is_outside as usize
 }
 
 // 2 where one of the first n shifts is t or more.
 fn of_shifts(plan: Plan) -> usize {
     let n = plan.n;
+    let t = plan.t;
+    let mut any = false;
     let mut j: usize = 0;
     while j < n {
-        if plan.t <= shift(plan, j) {
-            return 2;
-        }
+        any = any | (t <= shift(plan, j));
         j += 1;
     }
-    0
+    times(2, any as usize)
 }
 
 pub(crate) fn of_plan(plan: Plan) -> usize {
@@ -64,8 +50,6 @@ pub(crate) fn mark_bytes(places: usize) -> usize {
 
 // 4 where a spare bit is 1.
 pub(crate) fn of_spare(places: usize, marks: &Bytes) -> usize {
-    if bits(marks, places, times(8, mark_bytes(places))) != 0 {
-        return 4;
-    }
-    0
+    let is_spare = bits(marks, places, times(8, mark_bytes(places))) != 0;
+    times(4, is_spare as usize)
 }

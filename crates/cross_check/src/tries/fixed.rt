@@ -59,16 +59,8 @@ fn size_case(is_record: bool, i: usize) -> usize {
 fn powers_taken() -> usize {
     let made = Plan::powers(3, 7, 2);
     let plan = made.plan;
-    if shift(plan, 0) != 1 {
-        return MISMATCH;
-    }
-    if shift(plan, 1) != 2 {
-        return MISMATCH;
-    }
-    if shift(plan, 2) != 4 {
-        return MISMATCH;
-    }
-    must(plans::powers(3, 7, 2), PLANNED)
+    let is_known = (shift(plan, 0) == 1) & (shift(plan, 1) == 2) & (shift(plan, 2) == 4);
+    judged(is_known, must(plans::powers(3, 7, 2), PLANNED))
 }
 
 // The neighbour figure of a ruler plan.
@@ -136,18 +128,17 @@ fn job(
 ) -> bool {
     let mut list = [9u16; 14];
     let answer = recovery::recover(job_plan(), &mut block[..], &marks[..], &mut list[..]);
-    wide8(answer.number()) == number && answer.count() == count && is_list(known, &list)
+    (wide8(answer.number()) == number) & (answer.count() == count) & is_list(known, &list)
 }
 
 fn is_list(known: &[u16; 14], list: &[u16; 14]) -> bool {
+    let mut all = true;
     let mut i: usize = 0;
     while i < 14 {
-        if known[i] != list[i] {
-            return false;
-        }
+        all = all & (known[i] == list[i]);
         i += 1;
     }
-    true
+    all
 }
 
 // loose 6 0 7 16 2 10 17: these are the marks.
@@ -165,19 +156,18 @@ fn is_marks(counted: Counted, known: usize) -> bool {
     }
 }
 
+fn job_counts(marks: &[u8; 3]) -> bool {
+    is_marks(calls::erasure_count(job_plan(), &marks[..]), 5)
+}
+
 // recovered 5, and symbol 17 is 5: the same marks but for place 0
 fn job_recovered() -> usize {
     let mut block = [0u8; 21];
     let marks = [132u8, 4, 3];
     let known = [0u16; 14];
     block[0] = 5;
-    if !is_marks(calls::erasure_count(job_plan(), &marks[..]), 5) {
-        return MISMATCH;
-    }
-    if !job(0, &known, 0, &marks, &mut block) {
-        return MISMATCH;
-    }
-    judged(block[17] == 5, RECOVERED)
+    let is_job = job(0, &known, 0, &marks, &mut block);
+    judged(is_job & (block[17] == 5) & job_counts(&marks), RECOVERED)
 }
 
 // crossed 1 0: the recovered block with symbol 0 set to 0, and no marks

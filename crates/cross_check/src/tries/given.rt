@@ -173,23 +173,33 @@ pub(crate) fn codeword(plan: Plan, seed: u64, block: &mut Bytes) {
     messages::complete(plan, block);
 }
 
+// A number of a seed and a place, below n.
+fn chance(seed: u64, c: usize, n: usize) -> usize {
+    pick(seed, plus(1000, c) as u64, n)
+}
+
+// Whether c is one of k numbers.
+fn is_in(c: usize, from: usize, k: usize) -> bool {
+    (from <= c) & (c < plus(from, k))
+}
+
+// Whether a place is in one of two neighbouring sections, all of them but one place.
+fn is_in_two(places: usize, t: usize, seed: u64, c: usize) -> bool {
+    let from = times(t, pick(seed, 10, quotient(places, t)));
+    let but = plus(from, pick(seed, 11, plus(plus(t, t), 1)));
+    is_in(c, from, plus(t, t)) & (c != but)
+}
+
 // Whether a place is erased. Kinds: none; each with the same chance; two neighbouring sections but for one place; parity
 // places; a few; a run.
 fn is_erased(kind: usize, places: usize, t: usize, seed: u64, c: usize, parity: &Bytes) -> bool {
     match kind {
         0 => false,
-        1 => pick(seed, plus(1000, c) as u64, 64) < pick(seed, 10, 48),
-        2 => {
-            let from = times(t, pick(seed, 10, quotient(places, t)));
-            let but = plus(from, pick(seed, 11, plus(plus(t, t), 1)));
-            from <= c && c < plus(from, plus(t, t)) && c != but
-        }
-        3 => get8(parity, c) != 0 && pick(seed, plus(1000, c) as u64, 8) != 0,
-        4 => pick(seed, plus(1000, c) as u64, places) < 4,
-        _ => {
-            let from = pick(seed, 10, places);
-            from <= c && c < plus(from, pick(seed, 11, plus(t, t)))
-        }
+        1 => chance(seed, c, 64) < pick(seed, 10, 48),
+        2 => is_in_two(places, t, seed, c),
+        3 => (get8(parity, c) != 0) & (chance(seed, c, 8) != 0),
+        4 => chance(seed, c, places) < 4,
+        _ => is_in(c, pick(seed, 10, places), pick(seed, 11, plus(t, t))),
     }
 }
 
@@ -231,17 +241,14 @@ pub(crate) fn marks(plan: Plan, kind: usize, seed: u64, marks: &mut Bytes) {
 // A spare bit, where there is one, or none.
 pub(crate) fn spoilt_marks(plan: Plan, seed: u64, marks: &mut Bytes) {
     let places = least_of_places(plan);
-    if pick(seed, 12, 2) != 0 {
-        return;
-    }
-    if places % 8 != 0 {
+    if (pick(seed, 12, 2) == 0) & (places % 8 != 0) {
         set_bit(marks, plus(places, pick(seed, 13, 8 - places % 8)));
     }
 }
 
 fn rub_one(marks: &Bytes, c: usize, seed: u64, block: &mut Bytes) {
     if bit(marks, c) != 0 {
-        put8(block, c, low8(pick(seed, plus(1000, c) as u64, 256)));
+        put8(block, c, low8(chance(seed, c, 256)));
     }
 }
 

@@ -5,6 +5,7 @@ use crate::buffers::copy8;
 use crate::buffers::same8;
 use crate::buffers::same16;
 use crate::numbers::least;
+use crate::numbers::times;
 use crate::numbers::wide8;
 use crate::random;
 use crate::second::cycles;
@@ -52,10 +53,7 @@ fn recover_number(plan: Plan, lens: Lens, marks: &Bytes) -> usize {
     if number != 0 {
         return number;
     }
-    if lens.block != rows::places(plan) {
-        return 3;
-    }
-    if lens.list != rows::rows(plan) {
+    if (lens.block != rows::places(plan)) | (lens.list != rows::rows(plan)) {
         return 3;
     }
     marks_number(plan, lens, marks)
@@ -122,30 +120,16 @@ fn same_list(
     my_list: &Words,
     their_list: &Words,
 ) -> bool {
-    if mine.number != theirs.number {
-        return false;
-    }
-    if mine.number == 6 {
+    if (mine.number == 6) & (theirs.number == 6) {
         return cycles::is_cycle(plan, marks, their_list, theirs.count);
     }
-    if mine.count != theirs.count {
-        return false;
-    }
-    same16(w, my_list, their_list)
+    (mine.number == theirs.number) & (mine.count == theirs.count) & same16(w, my_list, their_list)
 }
 
 // What an undamaged block comes to: never crossed, and recovered to the codeword that was sent.
 fn as_sent(is_sent: bool, number: usize, k: usize, sent: &Bytes, block: &Bytes) -> bool {
-    if !is_sent {
-        return true;
-    }
-    if number == 5 {
-        return false;
-    }
-    if number != 0 {
-        return true;
-    }
-    same8(k, sent, block)
+    let is_right = (number != 5) & ((number != 0) | same8(k, sent, block));
+    !is_sent | is_right
 }
 
 // The number that both answer with, each on a block of its own and a list that holds other numbers.
@@ -207,7 +191,7 @@ fn count_number(plan: Plan, lens: Lens, marks: &Bytes) -> usize {
 fn counted(plan: Plan, number: usize, marks: &Bytes, answer: Counted) -> usize {
     match answer {
         Counted::Marks(k) => judged(
-            number == 0 && k == refusals::bits(marks, 0, rows::places(plan)),
+            (number == 0) & (k == refusals::bits(marks, 0, rows::places(plan))),
             COUNTED,
         ),
         Counted::Refused(x) => judged(wide8(x.number()) == number, refusal(number)),
@@ -230,13 +214,8 @@ fn carry_number(plan: Plan, lens: Lens) -> usize {
     if number != 0 {
         return number;
     }
-    if lens.block != rows::places(plan) {
-        return 3;
-    }
-    if lens.message != messages::count(plan) {
-        return 3;
-    }
-    0
+    let is_wrong = (lens.block != rows::places(plan)) | (lens.message != messages::count(plan));
+    times(3, is_wrong as usize)
 }
 
 fn carry_second(plan: Plan, lens: Lens, is_reading: bool, from: &Bytes, to: &mut Bytes) -> usize {
@@ -251,6 +230,13 @@ fn carry_second(plan: Plan, lens: Lens, is_reading: bool, from: &Bytes, to: &mut
     0
 }
 
+fn carry_whole(plan: Plan, is_reading: bool, from: &[u8], to: &mut [u8]) -> usize {
+    if is_reading {
+        return wide8(sealing::message_of(plan, from, to).number());
+    }
+    wide8(sealing::encode(plan, from, to).number())
+}
+
 // f symbols of one buffer into k of another.
 fn carry_parts(
     plan: Plan,
@@ -262,10 +248,7 @@ fn carry_parts(
 ) -> usize {
     let a = least(f, from.len());
     let b = least(k, to.len());
-    if is_reading {
-        return wide8(sealing::message_of(plan, &from[0..a], &mut to[0..b]).number());
-    }
-    wide8(sealing::encode(plan, &from[0..a], &mut to[0..b]).number())
+    carry_whole(plan, is_reading, &from[0..a], &mut to[0..b])
 }
 
 fn carry_library(

@@ -21,24 +21,17 @@ use plan::Plan;
 
 // All 32 shifts are compared.
 fn same_shifts(a: Plan, b: Plan) -> bool {
+    let mut all = true;
     let mut j: usize = 0;
     while j < 32 {
-        if shift(a, j) != shift(b, j) {
-            return false;
-        }
+        all = all & (shift(a, j) == shift(b, j));
         j += 1;
     }
-    true
+    all
 }
 
 fn same_plan(a: Plan, b: Plan) -> bool {
-    if a.n != b.n {
-        return false;
-    }
-    if a.t != b.t {
-        return false;
-    }
-    same_shifts(a, b)
+    (a.n == b.n) & (a.t == b.t) & same_shifts(a, b)
 }
 
 fn plan_outcome(number: usize) -> usize {
@@ -101,16 +94,10 @@ pub(crate) fn verdict(plan: Plan) -> usize {
 }
 
 fn same_figures(plan: Plan, four: Four) -> bool {
-    if four.parity != measures::parity(plan) {
-        return false;
-    }
-    if four.pair != measures::pair(plan) {
-        return false;
-    }
-    if four.neighbour != measures::neighbour(plan) {
-        return false;
-    }
-    four.distance == measures::distance(plan)
+    (four.parity == measures::parity(plan))
+        & (four.pair == measures::pair(plan))
+        & (four.neighbour == measures::neighbour(plan))
+        & (four.distance == measures::distance(plan))
 }
 
 // A small plan's distance by trying every word.
@@ -126,13 +113,21 @@ fn refused_as(theirs: usize, mine: usize) -> usize {
     judged(theirs == mine, refusal(mine))
 }
 
+// The outcome of figures, where the plan is not refused.
+fn figures_as(plan: Plan, number: usize, four: Four) -> usize {
+    if number != 0 {
+        return MISMATCH;
+    }
+    judged(
+        same_figures(plan, four) & same_weight(plan, four.distance),
+        FIGURES,
+    )
+}
+
 pub(crate) fn figures(plan: Plan) -> usize {
     let number = refusals::of_plan(plan);
     match figures::figures(plan) {
-        Answer::Are(four) => judged(
-            number == 0 && same_figures(plan, four) && same_weight(plan, four.distance),
-            FIGURES,
-        ),
+        Answer::Are(four) => figures_as(plan, number, four),
         Answer::Not(x) => refused_as(wide8(x.number()), number),
     }
 }
@@ -140,7 +135,7 @@ pub(crate) fn figures(plan: Plan) -> usize {
 pub(crate) fn message_count(plan: Plan) -> usize {
     let number = refusals::of_plan(plan);
     match plan.message_count() {
-        Count::Is(k) => judged(number == 0 && k == messages::count(plan), FIGURES),
+        Count::Is(k) => judged((number == 0) & (k == messages::count(plan)), FIGURES),
         Count::Not(x) => refused_as(wide8(x.number()), number),
     }
 }

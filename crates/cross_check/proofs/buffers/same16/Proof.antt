@@ -5,10 +5,10 @@ use Rattle.cross_check.proofs.buffers.same16.Statement.{statement}
 use Rattle.cross_check.proofs.buffers.same16.Tie as tie
 
 abbrev Inv-loop : tie.InvT-loop
-Inv-loop k a b i₀ i = Unit {0}
+Inv-loop k a b all₀ i₀ all i = Unit {0}
 
 abbrev μ-loop : tie.MeasureT-loop
-μ-loop k a b i₀ i = k - i
+μ-loop k a b all₀ i₀ all i = k - i
 
 loop-holds : tie.Need-loop-holds Inv-loop μ-loop
 loop-holds c = tt
@@ -19,9 +19,6 @@ get16-requires c κs = tt
 get16-requires-2 : tie.Need-get16-requires-2 Inv-loop μ-loop
 get16-requires-2 c κs = tt
 
-returns : tie.Need-returns Inv-loop μ-loop
-returns c = tt
-
 add-i : tie.Need-add-i Inv-loop μ-loop
 add-i c = omega arith
 
@@ -31,8 +28,8 @@ loop-less c = omega arith
 loop-again : tie.Need-loop-again Inv-loop μ-loop
 loop-again c = tt
 
-returns-2 : tie.Need-returns-2 Inv-loop μ-loop
-returns-2 c = tt
+returns : tie.Need-returns Inv-loop μ-loop
+returns c = tt
 
 pub same16-spec : {M : Type 1} → statement M
 same16-spec =
@@ -43,8 +40,7 @@ same16-spec =
     loop-holds
     get16-requires
     get16-requires-2
-    returns
     add-i
     loop-less
     loop-again
-    returns-2)
+    returns)

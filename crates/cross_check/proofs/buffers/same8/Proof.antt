@@ -5,10 +5,10 @@ use Rattle.cross_check.proofs.buffers.same8.Statement.{statement}
 use Rattle.cross_check.proofs.buffers.same8.Tie as tie
 
 abbrev Inv-loop : tie.InvT-loop
-Inv-loop k a b i₀ i = Unit {0}
+Inv-loop k a b all₀ i₀ all i = Unit {0}
 
 abbrev μ-loop : tie.MeasureT-loop
-μ-loop k a b i₀ i = k - i
+μ-loop k a b all₀ i₀ all i = k - i
 
 loop-holds : tie.Need-loop-holds Inv-loop μ-loop
 loop-holds c = tt
@@ -19,9 +19,6 @@ get8-requires c κs = tt
 get8-requires-2 : tie.Need-get8-requires-2 Inv-loop μ-loop
 get8-requires-2 c κs = tt
 
-returns : tie.Need-returns Inv-loop μ-loop
-returns c = tt
-
 add-i : tie.Need-add-i Inv-loop μ-loop
 add-i c = omega arith
 
@@ -31,8 +28,8 @@ loop-less c = omega arith
 loop-again : tie.Need-loop-again Inv-loop μ-loop
 loop-again c = tt
 
-returns-2 : tie.Need-returns-2 Inv-loop μ-loop
-returns-2 c = tt
+returns : tie.Need-returns Inv-loop μ-loop
+returns c = tt
 
 pub same8-spec : {M : Type 1} → statement M
 same8-spec =
@@ -43,8 +40,7 @@ same8-spec =
     loop-holds
     get8-requires
     get8-requires-2
-    returns
     add-i
     loop-less
     loop-again
-    returns-2)
+    returns)

@@ -5,19 +5,16 @@ use Rattle.cross_check.proofs.buffers.zeros16.Statement.{statement}
 use Rattle.cross_check.proofs.buffers.zeros16.Tie as tie
 
 abbrev Inv-loop : tie.InvT-loop
-Inv-loop s from end i₀ i = Unit {0}
+Inv-loop s from end all₀ i₀ all i = Unit {0}
 
 abbrev μ-loop : tie.MeasureT-loop
-μ-loop s from end i₀ i = end - i
+μ-loop s from end all₀ i₀ all i = end - i
 
 loop-holds : tie.Need-loop-holds Inv-loop μ-loop
 loop-holds c = tt
 
 get16-requires : tie.Need-get16-requires Inv-loop μ-loop
 get16-requires c κs = tt
-
-returns : tie.Need-returns Inv-loop μ-loop
-returns c = tt
 
 add-i : tie.Need-add-i Inv-loop μ-loop
 add-i c = omega arith
@@ -28,19 +25,10 @@ loop-less c = omega arith
 loop-again : tie.Need-loop-again Inv-loop μ-loop
 loop-again c = tt
 
-returns-2 : tie.Need-returns-2 Inv-loop μ-loop
-returns-2 c = tt
+returns : tie.Need-returns Inv-loop μ-loop
+returns c = tt
 
 pub zeros16-spec : {M : Type 1} → statement M
 zeros16-spec =
     tie.close
-    (tie.spec
-    Inv-loop
-    μ-loop
-    loop-holds
-    get16-requires
-    returns
-    add-i
-    loop-less
-    loop-again
-    returns-2)
+    (tie.spec Inv-loop μ-loop loop-holds get16-requires add-i loop-less loop-again returns)

@@ -5,16 +5,16 @@ use Rattle.cross_check.proofs.second.cycles.places_fit.Statement.{state
 use Rattle.cross_check.proofs.second.cycles.places_fit.Tie as tie
 
 abbrev Inv-loop : tie.InvT-loop
-Inv-loop plan marks list z met₀ i₀ met i = Unit {0}
+Inv-loop plan marks list z met₀ first all₀ i₀ met all i = Unit {0}
 
 abbrev μ-loop : tie.MeasureT-loop
-μ-loop plan marks list z met₀ i₀ met i = z - i
-
-loop-holds : tie.Need-loop-holds Inv-loop μ-loop
-loop-holds c = tt
+μ-loop plan marks list z met₀ first all₀ i₀ met all i = z - i
 
 get16-requires : tie.Need-get16-requires Inv-loop μ-loop
 get16-requires c κs = tt
+
+loop-holds : tie.Need-loop-holds Inv-loop μ-loop
+loop-holds c = tt
 
 get16-requires-2 : tie.Need-get16-requires-2 Inv-loop μ-loop
 get16-requires-2 c κs = tt
@@ -22,17 +22,8 @@ get16-requires-2 c κs = tt
 place-fits-requires : tie.Need-place-fits-requires Inv-loop μ-loop
 place-fits-requires c κs = tt
 
-returns : tie.Need-returns Inv-loop μ-loop
-returns c = tt
-
-get16-requires-3 : tie.Need-get16-requires-3 Inv-loop μ-loop
-get16-requires-3 c κs = tt
-
 is-new-requires : tie.Need-is-new-requires Inv-loop μ-loop
 is-new-requires c κs = tt
-
-returns-2 : tie.Need-returns-2 Inv-loop μ-loop
-returns-2 c = tt
 
 add-i : tie.Need-add-i Inv-loop μ-loop
 add-i c = omega arith
@@ -43,8 +34,8 @@ loop-less c = omega arith
 loop-again : tie.Need-loop-again Inv-loop μ-loop
 loop-again c = tt
 
-returns-3 : tie.Need-returns-3 Inv-loop μ-loop
-returns-3 c = tt
+returns : tie.Need-returns Inv-loop μ-loop
+returns c = tt
 
 pub places-fit-spec : {M : Type 1} → statement M
 places-fit-spec =
@@ -52,15 +43,12 @@ places-fit-spec =
     (tie.spec
     Inv-loop
     μ-loop
-    loop-holds
     get16-requires
+    loop-holds
     get16-requires-2
     place-fits-requires
-    returns
-    get16-requires-3
     is-new-requires
-    returns-2
     add-i
     loop-less
     loop-again
-    returns-3)
+    returns)

@@ -5,19 +5,13 @@ use Rattle.cross_check.proofs.second.cycles.rows_fit.Statement.{stateme
 use Rattle.cross_check.proofs.second.cycles.rows_fit.Tie as tie
 
 abbrev Inv-loop : tie.InvT-loop
-Inv-loop plan list z passed₀ i₀ passed i = Unit {0}
+Inv-loop plan list z passed₀ all₀ i₀ passed all i = Unit {0}
 
 abbrev μ-loop : tie.MeasureT-loop
-μ-loop plan list z passed₀ i₀ passed i = z - i
+μ-loop plan list z passed₀ all₀ i₀ passed all i = z - i
 
 loop-holds : tie.Need-loop-holds Inv-loop μ-loop
 loop-holds c = tt
-
-row-fits-requires : tie.Need-row-fits-requires Inv-loop μ-loop
-row-fits-requires c κs = tt
-
-returns : tie.Need-returns Inv-loop μ-loop
-returns c = tt
 
 get16-requires : tie.Need-get16-requires Inv-loop μ-loop
 get16-requires c κs = tt
@@ -25,11 +19,11 @@ get16-requires c κs = tt
 row-of-requires : tie.Need-row-of-requires Inv-loop μ-loop
 row-of-requires c κs = tt
 
+row-fits-requires : tie.Need-row-fits-requires Inv-loop μ-loop
+row-fits-requires c κs = tt
+
 is-new-requires : tie.Need-is-new-requires Inv-loop μ-loop
 is-new-requires c κs = tt
-
-returns-2 : tie.Need-returns-2 Inv-loop μ-loop
-returns-2 c = tt
 
 add-i : tie.Need-add-i Inv-loop μ-loop
 add-i c = omega arith
@@ -40,8 +34,8 @@ loop-less c = omega arith
 loop-again : tie.Need-loop-again Inv-loop μ-loop
 loop-again c = tt
 
-returns-3 : tie.Need-returns-3 Inv-loop μ-loop
-returns-3 c = tt
+returns : tie.Need-returns Inv-loop μ-loop
+returns c = tt
 
 pub rows-fit-spec : {M : Type 1} → statement M
 rows-fit-spec =
@@ -50,13 +44,11 @@ rows-fit-spec =
     Inv-loop
     μ-loop
     loop-holds
-    row-fits-requires
-    returns
     get16-requires
     row-of-requires
+    row-fits-requires
     is-new-requires
-    returns-2
     add-i
     loop-less
     loop-again
-    returns-3)
+    returns)

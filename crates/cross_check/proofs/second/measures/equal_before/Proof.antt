@@ -5,22 +5,19 @@ use Rattle.cross_check.proofs.second.measures.equal_before.Statement.{s
 use Rattle.cross_check.proofs.second.measures.equal_before.Tie as tie
 
 abbrev Inv-loop : tie.InvT-loop
-Inv-loop plan i j₀ j = Unit {0}
+Inv-loop plan i p any₀ j₀ any j = Unit {0}
 
 abbrev μ-loop : tie.MeasureT-loop
-μ-loop plan i j₀ j = i - j
-
-loop-holds : tie.Need-loop-holds Inv-loop μ-loop
-loop-holds c = tt
+μ-loop plan i p any₀ j₀ any j = i - j
 
 shift-requires : tie.Need-shift-requires Inv-loop μ-loop
 shift-requires c κs = tt
 
+loop-holds : tie.Need-loop-holds Inv-loop μ-loop
+loop-holds c = tt
+
 shift-requires-2 : tie.Need-shift-requires-2 Inv-loop μ-loop
 shift-requires-2 c κs = tt
-
-returns : tie.Need-returns Inv-loop μ-loop
-returns c = tt
 
 add-j : tie.Need-add-j Inv-loop μ-loop
 add-j c = omega arith
@@ -31,8 +28,8 @@ loop-less c = omega arith
 loop-again : tie.Need-loop-again Inv-loop μ-loop
 loop-again c = tt
 
-returns-2 : tie.Need-returns-2 Inv-loop μ-loop
-returns-2 c = tt
+returns : tie.Need-returns Inv-loop μ-loop
+returns c = tt
 
 pub equal-before-spec : {M : Type 1} → statement M
 equal-before-spec =
@@ -40,11 +37,10 @@ equal-before-spec =
     (tie.spec
     Inv-loop
     μ-loop
-    loop-holds
     shift-requires
+    loop-holds
     shift-requires-2
-    returns
     add-j
     loop-less
     loop-again
-    returns-2)
+    returns)

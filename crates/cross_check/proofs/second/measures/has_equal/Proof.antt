@@ -5,19 +5,16 @@ use Rattle.cross_check.proofs.second.measures.has_equal.Statement.{stat
 use Rattle.cross_check.proofs.second.measures.has_equal.Tie as tie
 
 abbrev Inv-loop : tie.InvT-loop
-Inv-loop plan n i₀ i = Unit {0}
+Inv-loop plan n any₀ i₀ any i = Unit {0}
 
 abbrev μ-loop : tie.MeasureT-loop
-μ-loop plan n i₀ i = n - i
+μ-loop plan n any₀ i₀ any i = n - i
 
 loop-holds : tie.Need-loop-holds Inv-loop μ-loop
 loop-holds c = tt
 
 equal-before-requires : tie.Need-equal-before-requires Inv-loop μ-loop
 equal-before-requires c κs = tt
-
-returns : tie.Need-returns Inv-loop μ-loop
-returns c = tt
 
 add-i : tie.Need-add-i Inv-loop μ-loop
 add-i c = omega arith
@@ -28,19 +25,10 @@ loop-less c = omega arith
 loop-again : tie.Need-loop-again Inv-loop μ-loop
 loop-again c = tt
 
-returns-2 : tie.Need-returns-2 Inv-loop μ-loop
-returns-2 c = tt
+returns : tie.Need-returns Inv-loop μ-loop
+returns c = tt
 
 pub has-equal-spec : {M : Type 1} → statement M
 has-equal-spec =
     tie.close
-    (tie.spec
-    Inv-loop
-    μ-loop
-    loop-holds
-    equal-before-requires
-    returns
-    add-i
-    loop-less
-    loop-again
-    returns-2)
+    (tie.spec Inv-loop μ-loop loop-holds equal-before-requires add-i loop-less loop-again returns)

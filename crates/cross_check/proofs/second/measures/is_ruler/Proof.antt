@@ -5,10 +5,10 @@ use Rattle.cross_check.proofs.second.measures.is_ruler.Statement.{state
 use Rattle.cross_check.proofs.second.measures.is_ruler.Tie as tie
 
 abbrev Inv-loop : tie.InvT-loop
-Inv-loop plan end x₀ x = Unit {0}
+Inv-loop plan end any₀ x₀ any x = Unit {0}
 
 abbrev μ-loop : tie.MeasureT-loop
-μ-loop plan end x₀ x = end - x
+μ-loop plan end any₀ x₀ any x = end - x
 
 times-requires : tie.Need-times-requires Inv-loop μ-loop
 times-requires c κs = tt
@@ -19,9 +19,6 @@ loop-holds c = tt
 meets-before-requires : tie.Need-meets-before-requires Inv-loop μ-loop
 meets-before-requires c κs = tt
 
-returns : tie.Need-returns Inv-loop μ-loop
-returns c = tt
-
 add-x : tie.Need-add-x Inv-loop μ-loop
 add-x c = omega arith
 
@@ -31,8 +28,8 @@ loop-less c = omega arith
 loop-again : tie.Need-loop-again Inv-loop μ-loop
 loop-again c = tt
 
-returns-2 : tie.Need-returns-2 Inv-loop μ-loop
-returns-2 c = tt
+returns : tie.Need-returns Inv-loop μ-loop
+returns c = tt
 
 pub is-ruler-spec : {M : Type 1} → statement M
 is-ruler-spec =
@@ -43,8 +40,7 @@ is-ruler-spec =
     times-requires
     loop-holds
     meets-before-requires
-    returns
     add-x
     loop-less
     loop-again
-    returns-2)
+    returns)

@@ -5,10 +5,10 @@ use Rattle.cross_check.proofs.second.measures.meets_before.Statement.{s
 use Rattle.cross_check.proofs.second.measures.meets_before.Tie as tie
 
 abbrev Inv-loop : tie.InvT-loop
-Inv-loop plan x d y₀ y = Unit {0}
+Inv-loop plan x d any₀ y₀ any y = Unit {0}
 
 abbrev μ-loop : tie.MeasureT-loop
-μ-loop plan x d y₀ y = x - y
+μ-loop plan x d any₀ y₀ any y = x - y
 
 difference-requires : tie.Need-difference-requires Inv-loop μ-loop
 difference-requires c κs = tt
@@ -19,9 +19,6 @@ loop-holds c = tt
 difference-requires-2 : tie.Need-difference-requires-2 Inv-loop μ-loop
 difference-requires-2 c κs = tt
 
-returns : tie.Need-returns Inv-loop μ-loop
-returns c = tt
-
 add-y : tie.Need-add-y Inv-loop μ-loop
 add-y c = omega arith
 
@@ -31,8 +28,8 @@ loop-less c = omega arith
 loop-again : tie.Need-loop-again Inv-loop μ-loop
 loop-again c = tt
 
-returns-2 : tie.Need-returns-2 Inv-loop μ-loop
-returns-2 c = tt
+returns : tie.Need-returns Inv-loop μ-loop
+returns c = tt
 
 pub meets-before-spec : {M : Type 1} → statement M
 meets-before-spec =
@@ -43,8 +40,7 @@ meets-before-spec =
     difference-requires
     loop-holds
     difference-requires-2
-    returns
     add-y
     loop-less
     loop-again
-    returns-2)
+    returns)

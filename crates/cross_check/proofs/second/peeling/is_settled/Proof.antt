@@ -5,10 +5,10 @@ use Rattle.cross_check.proofs.second.peeling.is_settled.Statement.{stat
 use Rattle.cross_check.proofs.second.peeling.is_settled.Tie as tie
 
 abbrev Inv-loop : tie.InvT-loop
-Inv-loop plan block erased end r₀ r = Unit {0}
+Inv-loop plan block erased end all₀ r₀ all r = Unit {0}
 
 abbrev μ-loop : tie.MeasureT-loop
-μ-loop plan block erased end r₀ r = end - r
+μ-loop plan block erased end all₀ r₀ all r = end - r
 
 rows-requires : tie.Need-rows-requires Inv-loop μ-loop
 rows-requires c κs = tt
@@ -19,12 +19,6 @@ loop-holds c = tt
 look-requires : tie.Need-look-requires Inv-loop μ-loop
 look-requires c κs = tt
 
-returns : tie.Need-returns Inv-loop μ-loop
-returns c = tt
-
-returns-2 : tie.Need-returns-2 Inv-loop μ-loop
-returns-2 c = tt
-
 add-r : tie.Need-add-r Inv-loop μ-loop
 add-r c = omega arith
 
@@ -34,8 +28,8 @@ loop-less c = omega arith
 loop-again : tie.Need-loop-again Inv-loop μ-loop
 loop-again c = tt
 
-returns-3 : tie.Need-returns-3 Inv-loop μ-loop
-returns-3 c = tt
+returns : tie.Need-returns Inv-loop μ-loop
+returns c = tt
 
 pub is-settled-spec : {M : Type 1} → statement M
 is-settled-spec =
@@ -46,9 +40,7 @@ is-settled-spec =
     rows-requires
     loop-holds
     look-requires
-    returns
-    returns-2
     add-r
     loop-less
     loop-again
-    returns-3)
+    returns)

@@ -5,10 +5,10 @@ use Rattle.cross_check.proofs.second.plans.have_factor.Statement.{state
 use Rattle.cross_check.proofs.second.plans.have_factor.Tie as tie
 
 abbrev Inv-loop : tie.InvT-loop
-Inv-loop t q d₀ d = Unit {0}
+Inv-loop t q any₀ d₀ any d = Unit {0}
 
 abbrev μ-loop : tie.MeasureT-loop
-μ-loop t q d₀ d = t - d
+μ-loop t q any₀ d₀ any d = t - d
 
 loop-holds : tie.Need-loop-holds Inv-loop μ-loop
 loop-holds c = tt
@@ -19,28 +19,16 @@ add-d c = omega arith
 divides-requires : tie.Need-divides-requires Inv-loop μ-loop
 divides-requires c κs = tt
 
-returns : tie.Need-returns Inv-loop μ-loop
-returns c = tt
-
 loop-less : tie.Need-loop-less Inv-loop μ-loop
 loop-less c = omega arith
 
 loop-again : tie.Need-loop-again Inv-loop μ-loop
 loop-again c = tt
 
-returns-2 : tie.Need-returns-2 Inv-loop μ-loop
-returns-2 c = tt
+returns : tie.Need-returns Inv-loop μ-loop
+returns c = tt
 
 pub have-factor-spec : {M : Type 1} → statement M
 have-factor-spec =
     tie.close
-    (tie.spec
-    Inv-loop
-    μ-loop
-    loop-holds
-    add-d
-    divides-requires
-    returns
-    loop-less
-    loop-again
-    returns-2)
+    (tie.spec Inv-loop μ-loop loop-holds add-d divides-requires loop-less loop-again returns)

@@ -6,28 +6,25 @@ use Rattle.cross_check.proofs.tries.fixed.is_list.Statement.{statement}
 use Rattle.cross_check.proofs.tries.fixed.is_list.Tie as tie
 
 abbrev Inv-loop : tie.InvT-loop
-Inv-loop known list i₀ i = Unit {0}
+Inv-loop known list all₀ i₀ all i = Unit {0}
 
 abbrev μ-loop : tie.MeasureT-loop
-μ-loop known list i₀ i = 14 - i
+μ-loop known list all₀ i₀ all i = 14 - i
 
 loop-holds : tie.Need-loop-holds Inv-loop μ-loop
 loop-holds c = tt
 
-mul-if1 : tie.Need-mul-if1 Inv-loop μ-loop
-mul-if1 c = search needs
+mul-all : tie.Need-mul-all Inv-loop μ-loop
+mul-all c = search needs
 
-element-copy-out-if1 : tie.Need-element-copy-out-if1 Inv-loop μ-loop
-element-copy-out-if1 c = search needs
+element-copy-out-all : tie.Need-element-copy-out-all Inv-loop μ-loop
+element-copy-out-all c = search needs
 
-mul-if1-2 : tie.Need-mul-if1-2 Inv-loop μ-loop
-mul-if1-2 c = search needs
+mul-all-2 : tie.Need-mul-all-2 Inv-loop μ-loop
+mul-all-2 c = search needs
 
-element-copy-out-if1-2 : tie.Need-element-copy-out-if1-2 Inv-loop μ-loop
-element-copy-out-if1-2 c = search needs
-
-returns : tie.Need-returns Inv-loop μ-loop
-returns c = tt
+element-copy-out-all-2 : tie.Need-element-copy-out-all-2 Inv-loop μ-loop
+element-copy-out-all-2 c = search needs
 
 add-i : tie.Need-add-i Inv-loop μ-loop
 add-i c = omega arith
@@ -38,8 +35,8 @@ loop-less c = omega arith
 loop-again : tie.Need-loop-again Inv-loop μ-loop
 loop-again c = tt
 
-returns-2 : tie.Need-returns-2 Inv-loop μ-loop
-returns-2 c = tt
+returns : tie.Need-returns Inv-loop μ-loop
+returns c = tt
 
 pub is-list-spec : {M : Type 1} → statement M
 is-list-spec =
@@ -48,12 +45,11 @@ is-list-spec =
     Inv-loop
     μ-loop
     loop-holds
-    mul-if1
-    element-copy-out-if1
-    mul-if1-2
-    element-copy-out-if1-2
-    returns
+    mul-all
+    element-copy-out-all
+    mul-all-2
+    element-copy-out-all-2
     add-i
     loop-less
     loop-again
-    returns-2)
+    returns)

@@ -5,10 +5,10 @@ use Rattle.cross_check.proofs.tries.plans.same_shifts.Statement.{statem
 use Rattle.cross_check.proofs.tries.plans.same_shifts.Tie as tie
 
 abbrev Inv-loop : tie.InvT-loop
-Inv-loop a b j₀ j = Unit {0}
+Inv-loop a b all₀ j₀ all j = Unit {0}
 
 abbrev μ-loop : tie.MeasureT-loop
-μ-loop a b j₀ j = 32 - j
+μ-loop a b all₀ j₀ all j = 32 - j
 
 loop-holds : tie.Need-loop-holds Inv-loop μ-loop
 loop-holds c = tt
@@ -19,9 +19,6 @@ shift-requires c κs = tt
 shift-requires-2 : tie.Need-shift-requires-2 Inv-loop μ-loop
 shift-requires-2 c κs = tt
 
-returns : tie.Need-returns Inv-loop μ-loop
-returns c = tt
-
 add-j : tie.Need-add-j Inv-loop μ-loop
 add-j c = omega arith
 
@@ -31,8 +28,8 @@ loop-less c = omega arith
 loop-again : tie.Need-loop-again Inv-loop μ-loop
 loop-again c = tt
 
-returns-2 : tie.Need-returns-2 Inv-loop μ-loop
-returns-2 c = tt
+returns : tie.Need-returns Inv-loop μ-loop
+returns c = tt
 
 pub same-shifts-spec : {M : Type 1} → statement M
 same-shifts-spec =
@@ -43,8 +40,7 @@ same-shifts-spec =
     loop-holds
     shift-requires
     shift-requires-2
-    returns
     add-j
     loop-less
     loop-again
-    returns-2)
+    returns)
