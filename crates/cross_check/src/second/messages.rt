@@ -81,37 +81,38 @@ pub(crate) fn complete(plan: Plan, block: &mut Bytes) {
     settle(plan, block, &mut parity);
 }
 
-// The number of symbols of the message that are used up after place c.
-fn spread_one(parity: &Bytes, message: &Bytes, c: usize, i: usize, block: &mut Bytes) -> usize {
+fn either(is_first: bool, a: usize, b: usize) -> usize {
+    if is_first {
+        return a;
+    }
+    b
+}
+
+// Symbol i of the message and place c of the block, one from the other. The number of symbols used up after place c.
+fn carry_one(
+    is_reading: bool,
+    parity: &Bytes,
+    from: &Bytes,
+    c: usize,
+    i: usize,
+    to: &mut Bytes,
+) -> usize {
     if get8(parity, c) != 0 {
         return i;
     }
-    put8(block, c, get8(message, i));
+    put8(
+        to,
+        either(is_reading, i, c),
+        get8(from, either(is_reading, c, i)),
+    );
     plus(i, 1)
 }
 
-fn spread(end: usize, parity: &Bytes, message: &Bytes, block: &mut Bytes) {
+fn carry(is_reading: bool, end: usize, parity: &Bytes, from: &Bytes, to: &mut Bytes) {
     let mut i: usize = 0;
     let mut c: usize = 0;
     while c < end {
-        i = spread_one(parity, message, c, i, &mut *block);
-        c += 1;
-    }
-}
-
-fn gather_one(parity: &Bytes, block: &Bytes, c: usize, i: usize, message: &mut Bytes) -> usize {
-    if get8(parity, c) != 0 {
-        return i;
-    }
-    put8(message, i, get8(block, c));
-    plus(i, 1)
-}
-
-fn gather(end: usize, parity: &Bytes, block: &Bytes, message: &mut Bytes) {
-    let mut i: usize = 0;
-    let mut c: usize = 0;
-    while c < end {
-        i = gather_one(parity, block, c, i, &mut *message);
+        i = carry_one(is_reading, parity, from, c, i, &mut *to);
         c += 1;
     }
 }
@@ -120,7 +121,7 @@ fn gather(end: usize, parity: &Bytes, block: &Bytes, message: &mut Bytes) {
 pub(crate) fn encode(plan: Plan, message: &Bytes, block: &mut Bytes) {
     let mut parity = [0u8; 32784];
     parities(plan, &mut parity);
-    spread(places(plan), &parity, message, &mut *block);
+    carry(false, places(plan), &parity, message, &mut *block);
     settle(plan, block, &mut parity);
 }
 
@@ -131,6 +132,6 @@ pub(crate) fn read(plan: Plan, block: &Bytes, message: &mut Bytes) -> usize {
         return 5;
     }
     parities(plan, &mut parity);
-    gather(places(plan), &parity, block, message);
+    carry(true, places(plan), &parity, block, message);
     0
 }

@@ -1,10 +1,9 @@
 // The cases that 01 names, each with the outcome that it must have.
 use crate::buffers::Bytes;
 use crate::buffers::Words;
+use crate::buffers::get8;
 use crate::buffers::same16;
-use crate::numbers::minus;
 use crate::numbers::plus;
-use crate::numbers::wide8;
 use crate::second::rows::shift;
 use crate::tally::CROSSED;
 use crate::tally::FAMILY;
@@ -21,6 +20,8 @@ use crate::tally::Tally;
 use crate::tally::judged;
 use crate::tally::note;
 use crate::tries::given;
+use crate::tries::lent;
+use crate::tries::lent::Lens;
 use crate::tries::plans;
 use crate::tries::seeded;
 use calls::Counted;
@@ -118,35 +119,42 @@ fn job_plan() -> Plan {
     made.plan
 }
 
-// Whether the answer to 01's job has this number and count, and its list these places, then zeros.
-fn job(
-    number: usize,
-    known: &[u16; 14],
-    count: usize,
-    marks: &[u8; 3],
-    block: &mut [u8; 21],
-) -> bool {
-    let mut list = [9u16; 14];
-    let answer = recovery::recover(job_plan(), &mut block[..], &marks[..], &mut list[..]);
-    (wide8(answer.number()) == number) & (answer.count() == count) & is_list(known, &list)
-}
-
-fn is_list(known: &[u16; 14], list: &[u16; 14]) -> bool {
-    let mut all = true;
-    let mut i: usize = 0;
-    while i < 14 {
-        all = all & (known[i] == list[i]);
-        i += 1;
+// What 01's job lends.
+fn job_lens() -> Lens {
+    Lens {
+        block: 21,
+        marks: 3,
+        list: 14,
+        message: 10,
     }
-    all
 }
 
-// loose 6 0 7 16 2 10 17: these are the marks.
+// The places 0 2 7, then 10, then 16 17; or without the first.
+fn job_marks(has_first: bool, marks: &mut Bytes) {
+    marks[0] = 132 | (has_first as u8);
+    marks[1] = 4;
+    marks[2] = 3;
+}
+
+// Whether the answer to 01's job has this number and count, and its list these places, then zeros.
+fn job(number: usize, count: usize, known: &Words, marks: &Bytes, block: &mut Bytes) -> bool {
+    let mut list = [9u16; 4112];
+    let answer = lent::recover_library(job_plan(), job_lens(), marks, block, &mut list);
+    (answer.number == number) & (answer.count == count) & same16(14, &list, known)
+}
+
+// loose 6 0 7 16 2 10 17
 fn job_loose() -> usize {
-    let mut block = [0u8; 21];
-    let marks = [133u8, 4, 3];
-    let known = [0u16, 7, 16, 2, 10, 17, 0, 0, 0, 0, 0, 0, 0, 0];
-    judged(job(6, &known, 6, &marks, &mut block), LOOSE)
+    let mut block = [0u8; 32784];
+    let mut marks = [0u8; 32784];
+    let mut known = [0u16; 4112];
+    job_marks(true, &mut marks);
+    known[1] = 7;
+    known[2] = 16;
+    known[3] = 2;
+    known[4] = 10;
+    known[5] = 17;
+    judged(job(6, 6, &known, &marks, &mut block), LOOSE)
 }
 
 fn is_marks(counted: Counted, known: usize) -> bool {
@@ -156,48 +164,35 @@ fn is_marks(counted: Counted, known: usize) -> bool {
     }
 }
 
-fn job_counts(marks: &[u8; 3]) -> bool {
-    is_marks(calls::erasure_count(job_plan(), &marks[..]), 5)
+fn job_counts(marks: &Bytes) -> bool {
+    is_marks(lent::count_library(job_plan(), job_lens(), &marks[..]), 5)
 }
 
-// recovered 5, and symbol 17 is 5: the same marks but for place 0
+// recovered 5, and symbol 17 is 5
 fn job_recovered() -> usize {
-    let mut block = [0u8; 21];
-    let marks = [132u8, 4, 3];
-    let known = [0u16; 14];
+    let mut block = [0u8; 32784];
+    let mut marks = [0u8; 32784];
+    let known = [0u16; 4112];
+    job_marks(false, &mut marks);
     block[0] = 5;
-    let is_job = job(0, &known, 0, &marks, &mut block);
-    judged(is_job & (block[17] == 5) & job_counts(&marks), RECOVERED)
+    let is_job = job(0, 0, &known, &marks, &mut block);
+    judged(
+        is_job & (get8(&block, 17) == 5) & job_counts(&marks),
+        RECOVERED,
+    )
 }
 
 // crossed 1 0: the recovered block with symbol 0 set to 0, and no marks
 fn job_crossed() -> usize {
-    let mut block = [
-        0u8,
-        0,
-        5,
-        0,
-        0,
-        0,
-        0,
-        5,
-        0,
-        0,
-        5,
-        0,
-        0,
-        0,
-        0,
-        0,
-        5,
-        5,
-        0,
-        0,
-        0,
-    ];
-    let marks = [0u8; 3];
-    let known = [0u16; 14];
-    judged(job(5, &known, 1, &marks, &mut block), CROSSED)
+    let mut block = [0u8; 32784];
+    let marks = [0u8; 32784];
+    let known = [0u16; 4112];
+    block[2] = 5;
+    block[7] = 5;
+    block[10] = 5;
+    block[16] = 5;
+    block[17] = 5;
+    judged(job(5, 1, &known, &marks, &mut block), CROSSED)
 }
 
 fn job_case(i: usize) -> usize {

@@ -78,26 +78,41 @@ fn with_size(plan: Plan, n: usize, t: usize) -> Plan {
     Plan { n, t, shifts }
 }
 
-// The plan with a fault, or as it is.
-pub(crate) fn spoilt(plan: Plan, seed: u64) -> Plan {
-    let n = plan.n;
-    let t = plan.t;
-    match pick(seed, 5, 24) {
-        0 => with_size(plan, 0, t),
-        1 => with_size(plan, 1, t),
-        2 => with_size(plan, 33, t),
-        3 => with_size(plan, n, 0),
-        4 => with_size(plan, n, 2049),
+fn spoilt_size(plan: Plan, fault: usize, seed: u64) -> Plan {
+    match fault {
+        0 => with_size(plan, 0, plan.t),
+        1 => with_size(plan, 1, plan.t),
+        2 => with_size(plan, 33, plan.t),
+        3 => with_size(plan, plan.n, 0),
+        4 => with_size(plan, plan.n, 2049),
         5 => with_size(plan, 29, 1130),
         6 => with_size(plan, plus(17, pick(seed, 6, 16)), 2048),
         7 => with_size(plan, 1 << 63, 2),
-        8 => with_size(plan, 2, 1 << 63),
-        9 => with_shift(plan, pick(seed, 6, n), t),
-        10 => with_shift(plan, pick(seed, 6, n), plus(t, pick(seed, 7, 60000))),
+        _ => with_size(plan, 2, 1 << 63),
+    }
+}
+
+fn spoilt_shift(plan: Plan, fault: usize, seed: u64) -> Plan {
+    match fault {
+        9 => with_shift(plan, pick(seed, 6, plan.n), plan.t),
+        10 => with_shift(
+            plan,
+            pick(seed, 6, plan.n),
+            plus(plan.t, pick(seed, 7, 60000)),
+        ),
         11 => with_shift(plan, 0, 65535),
-        12 => with_shift(plan, minus(n, 1), t),
+        12 => with_shift(plan, minus(plan.n, 1), plan.t),
         _ => plan,
     }
+}
+
+// The plan with a fault, or as it is.
+pub(crate) fn spoilt(plan: Plan, seed: u64) -> Plan {
+    let fault = pick(seed, 5, 24);
+    if fault < 9 {
+        return spoilt_size(plan, fault, seed);
+    }
+    spoilt_shift(plan, fault, seed)
 }
 
 fn least_of_places(plan: Plan) -> usize {

@@ -91,7 +91,7 @@ fn recover_parts(
     }
 }
 
-fn recover_library(
+pub(crate) fn recover_library(
     plan: Plan,
     lens: Lens,
     marks: &Bytes,
@@ -198,7 +198,7 @@ fn counted(plan: Plan, number: usize, marks: &Bytes, answer: Counted) -> usize {
     }
 }
 
-fn count_library(plan: Plan, lens: Lens, marks: &[u8]) -> Counted {
+pub(crate) fn count_library(plan: Plan, lens: Lens, marks: &[u8]) -> Counted {
     let m = least(lens.marks, marks.len());
     calls::erasure_count(plan, &marks[0..m])
 }
