@@ -16,10 +16,10 @@ use Rattle.code.specs.Theorems.{parity-count}
 use Rattle.figures.specs.declared.Four.{Four}
 use Rattle.figures.specs.declared.Answer.the-variants.{Are, Not}
 use Rattle.figures.specs.Answers.{Answered}
-use Rattle.figures.specs.Sections.{Usable}
-use Rattle.figures.specs.SectionsLaws.{usable-valid}
-use Rattle.figures.specs.Divisors.{Most, Ordered}
-use Rattle.figures.specs.DivisorsLaws.{most-pos, most-le, pairs-all, figure-least}
+use Rattle.differences.specs.Sections.{Usable}
+use Rattle.differences.specs.SectionsLaws.{usable-valid}
+use Rattle.divisors.specs.Divisors.{Most, Ordered}
+use Rattle.divisors.specs.DivisorsLaws.{most-pos, most-le, pairs-all, figure-least}
 
 module _ {n t : ℕ} {s : List ℕ} (u : Usable n t s) where
   -- there are two sections, and they are neighbours

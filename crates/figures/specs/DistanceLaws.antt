@@ -15,8 +15,8 @@ use Rattle.math.specs.MembersLaws.{upTo-∈, length-upTo}
 use Rattle.plan.specs.Layout.{Layout, layout}
 use Rattle.code.specs.Figures.{Least, Pair, pairNumber, Capability, NonzeroWeight, EqualShifts, Ruler}
 use Rattle.code.specs.Theorems.{distance-equal, distance-ruler, distance-other, distance-pair}
-use Rattle.figures.specs.Sections.{Usable}
-use Rattle.figures.specs.SectionsLaws.{usable-valid}
+use Rattle.differences.specs.Sections.{Usable}
+use Rattle.differences.specs.SectionsLaws.{usable-valid}
 
 -- a pair's number: the same in both orders, at least 2, and 2 exactly where the shifts are equal
 pairNumber-comm : (L : Layout) (i j : ℕ) → pairNumber L i j ≡ pairNumber L j i

@@ -1,10 +1,4 @@
--- What `figures` answers (Answers), what the functions below it ask and keep (Sections, Divisors, Differences), and the laws of each.
+-- What `figures` answers (Answers), and the laws of it and of the distance.
 pub mod Answers
-pub mod Sections
-pub mod Divisors
-pub mod Differences
-pub mod SectionsLaws
-pub mod DivisorsLaws
-pub mod DifferencesLaws
 pub mod DistanceLaws
 pub mod AnswersLaws

@@ -1,8 +1,8 @@
 // The distance: the least number of nonzero symbols in a nonzero codeword.
 ghost use Rattle.plan.specs.Layout.{layout};
 ghost use Rattle.code.specs.Figures.{Least, Capability, Pair, NonzeroWeight};
-ghost use Rattle.figures.specs.Sections.{Usable};
-use crate::differences::all_distinct;
+ghost use Rattle.differences.specs.Sections.{Usable};
+use differences::all_distinct;
 
 // The pair figure is 1 exactly where two shifts are equal.
 pub fn distance(n: usize, t: usize, s: &[u16], pair: usize) -> usize

@@ -3,13 +3,11 @@
 ghost use Rattle.plan.specs.Layout.{layout};
 ghost use Rattle.code.specs.Figures.{Figures};
 ghost use Rattle.figures.specs.Answers.{Answered};
-ghost use Rattle.figures.specs.Sections.{Usable};
+ghost use Rattle.differences.specs.Sections.{Usable};
 use plan::Plan;
 use plan::Verdict;
 
-mod differences;
 mod distance;
-mod divisors;
 mod parity;
 
 pub struct Four {

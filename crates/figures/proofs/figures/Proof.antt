@@ -1,6 +1,6 @@
 -- `figures` meets its contract: a good plan has usable shifts, and any other verdict is handed on. Assumes nothing.
 use Rattle.figures.specs.AnswersLaws.{answered-good, answered-not}
-use Rattle.figures.specs.SectionsLaws.{good-usable}
+use Rattle.differences.specs.SectionsLaws.{good-usable}
 use borrow.Author.Needs.{needs}
 use lib.ListN.{length}
 use mathlib.Core.Path.{_≡_, sym, _∙_}

@@ -1,5 +1,5 @@
 -- `parity::count` meets its contract. Assumes nothing.
-use Rattle.figures.specs.SectionsLaws.{parity-is}
+use Rattle.differences.specs.SectionsLaws.{parity-is}
 use Rattle.plan.specs.PlanLaws.{divisor-most}
 use borrow.Author.Needs.{needs}
 use lib.Seq.{length-take-le}
