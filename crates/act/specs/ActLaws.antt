@@ -1,38 +1,32 @@
 -- How each command keeps its meaning: what its function did to the buffers, said of the state.
--- Main results: blank-good, made-acts, shifted, symbol-set, one-marked, run-marked, shown, figured, sealed, recovered; on-recovered, on-loose, on-crossed.
+-- Main results: blank-good, new-acts, straight-acts, powers-acts, ruler-acts, shifted, symbol-set, one-marked, run-marked, shown.
 use mathlib.Core.Path.{_≡_, refl, sym, _∙_, ap, subst}
 use mathlib.Core.Logic.{by-cases}
 use mathlib.Core.Bool.{true}
-use mathlib.Core.List.{List, [], _∷_, _++_, map}
+use mathlib.Core.List.{List, [], _∷_, _++_}
 use Prim.Native.Nat.{ℕ, zero, suc, _+_, _-_, _*_, _/_, _≤_, _<_}
 use native.Mathlib.Decide.{ℕ-discrete}
 use native.Mathlib.Omega.{arith}
-use lib.ListN.{length, getD, set, take, drop, replicate, length-set, length-take, length-replicate, length-append, List·getD-eq-default}
-use lib.Seq.{length-front, take-set-lt, drop-set-lt, getD-set-same, getD-set-other, getD-take, length-take-le, take-at}
-use Rattle.math.specs.MembersLaws.{length-upTo}
+use lib.ListN.{length, getD, set, take, drop, replicate, length-set, length-replicate}
+use lib.Seq.{take-set-lt, drop-set-lt, getD-set-same, getD-set-other, getD-take}
 use Rattle.bounds.specs.Bounds.{sizeFits}
 use Rattle.shifts.specs.Shifts.{padded}
-use Rattle.plan.specs.Layout.{Layout, layout, divisor, messageCount}
+use Rattle.plan.specs.Layout.{layout}
 use Rattle.plan.specs.Plans as plans
 use Rattle.plan.specs.Plans.{layoutOf, verdictOf, made, straightOf, powersOf, rulerOf}
-use Rattle.plan.specs.PlanLaws.{Fitting, GoodPlan, good-bounds, good-valid, bounds-good, size-fitting, straight-good, powers-good, ruler-good}
+use Rattle.plan.specs.PlanLaws.{Fitting, good-bounds, bounds-good, size-fitting, straight-good, powers-good, ruler-good}
 use Rattle.plan.specs.declared.Plan.{Plan}
 use Rattle.plan.specs.declared.Made.{Made}
 use Rattle.plan.specs.declared.Verdict.the-variants as verdict
-use Rattle.code.specs.Codewords.{at}
-use Rattle.code.specs.Marks.{markBytes, NoSpare, erasures}
-use Rattle.code.specs.Messages.{Carries}
-use Rattle.code.specs.Laws.ParityCount.{messages, message-lists, length-messages}
-use Rattle.code.specs.Figures as code
-use Rattle.lines.specs.Lines.{line, symbolWord, figuresWord, sealedWord}
-use Rattle.commands.specs.declared.Command.the-variants.{NewPlan, SetShift, SetSymbol, MarkOne, MarkRun, Recover, Seal, Show, Figures, Straight, Powers, Ruler}
+use Rattle.code.specs.Marks.{markBytes, NoSpare}
+use Rattle.lines.specs.Lines.{line, symbolWord}
+use Rattle.commands.specs.declared.Command.the-variants.{NewPlan, SetShift, SetSymbol, MarkOne, MarkRun, Show, Straight, Powers, Ruler}
 use Rattle.state.specs.State.{State, fresh, Marked, withShift, withPlan, withBlock}
 use Rattle.state.specs.Refusals.{refusalOf}
-use Rattle.state.specs.MarkedLaws.{Bytes, marked-no-spare, no-marks-no-spare}
-use Rattle.act.specs.Meaning.{Means, Marking, Figuring, Sealing, Recovering}
-use Rattle.act.specs.Acts.{stateOf, Kept, Rest, Acts, blockLength, marksLength}
-use Rattle.act.specs.Wholes.{Whole, Recovered, whole}
-use Rattle.act.specs.StateLaws.{number-good, holding, marked-take, marked-rest, places-most, bytes-most, part-back, part-long, part-rest, cleared-front}
+use Rattle.state.specs.MarkedLaws.{Bytes, marked-no-spare}
+use Rattle.act.specs.Meaning.{Means, Marking}
+use Rattle.act.specs.Acts.{stateOf, Kept, Rest, Acts, blockLength}
+use Rattle.act.specs.StateLaws.{number-good, holding, marked-take, marked-rest}
 use Rattle.act.specs.declared.Held.{Held}
 
 -- ---- new plans
@@ -168,106 +162,3 @@ shown {h} {v} {m} k c less e =
       kept = k;
       rest = record { block = refl; marks = refl };
     }
-
-pub figured : {h : Held} {v m : List ℕ} → Kept h v m → (a b c d : ℕ) → code.Figures (layoutOf (h .plan)) a b c d →
-    {text : List ℕ} → text ≡ line figuresWord (a ∷ b ∷ c ∷ d ∷ []) → Acts Figures h v m text h v m
-figured {h} {v} {m} k a b c d f e =
-    record {
-      means = unfold Means stateOf in record { parity = a; pair = b; neighbour = c; distance = d; figures = f; state = refl; says = e };
-      kept = k;
-      rest = record { block = refl; marks = refl };
-    }
-
--- ---- the whole block
-
--- the number of message places
-pub message-number : (p : Plan) → verdictOf p ≡ verdict.Good → length (messages (layoutOf p)) ≡ messageCount (layoutOf p)
-unfolding messageCount
-message-number p g = length-messages (layoutOf p) (good-valid p g) some ∙ ap (λ x. x * layoutOf p .t - (2 * layoutOf p .t - divisor (layoutOf p))) count
-  where
-    count : length (layoutOf p .sections) ≡ layoutOf p .n
-    count = unfold layoutOf layout in length-upTo (p .n)
-
-    some : 0 < length (layoutOf p .sections)
-    some = unfold layoutOf layout in rw (length-upTo (p .n)) (omega (arith, good-bounds p g .size))
-
--- the state's own parts, lent
-pub lent-whole : {h : Held} {v m : List ℕ} → Kept h v m → h .planned ≡ true →
-    Whole (h .plan) (take (h .plan .n * h .plan .t) v) (take ((h .plan .n * h .plan .t + 7) / 8) m)
-unfolding markBytes layoutOf layout NoSpare
-lent-whole {h} {v} {m} k planned =
-    let g = k .good planned in
-    record {
-      good = g;
-      block-long = length-take-le _ v (omega (arith, places-most (h .plan) g, k .block-long));
-      marks-long = length-take-le _ m (omega (arith, bytes-most (h .plan) g, k .marks-long));
-      spare = k .spare planned;
-    }
-
--- the state of parts that came back to the front of the buffers
-module _ {h : Held} {v m : List ℕ} (k : Kept h v m) (planned : h .planned ≡ true) (a b : List ℕ)
-    (a-long : length a ≡ length (take (h .plan .n * h .plan .t) v)) (b-long : length b ≡ length (take ((h .plan .n * h .plan .t + 7) / 8) m)) where
-  back-state : stateOf h (a ++ drop (h .plan .n * h .plan .t) v) (b ++ drop ((h .plan .n * h .plan .t + 7) / 8) m) ≡ whole (h .plan) a b
-  unfolding stateOf markBytes layoutOf layout
-  back-state =
-      let g = k .good planned in
-      rw (planned, part-back (h .plan .n * h .plan .t) v a (omega (arith, places-most (h .plan) g, k .block-long)) a-long, part-back ((h .plan .n * h .plan .t + 7) / 8) m b (omega (arith, bytes-most (h .plan) g, k .marks-long)) b-long)
-
-  back-kept : NoSpare (layoutOf (h .plan)) b → Kept h (a ++ drop (h .plan .n * h .plan .t) v) (b ++ drop ((h .plan .n * h .plan .t + 7) / 8) m)
-  unfolding markBytes layoutOf layout NoSpare
-  back-kept spare =
-      let g = k .good planned in
-      record {
-        good = k .good;
-        spare = λ _. rw (part-back ((h .plan .n * h .plan .t + 7) / 8) m b (omega (arith, bytes-most (h .plan) g, k .marks-long)) b-long) spare;
-        block-long = length-front v a (h .plan .n * h .plan .t) a-long ∙ k .block-long;
-        marks-long = length-front m b ((h .plan .n * h .plan .t + 7) / 8) b-long ∙ k .marks-long;
-      }
-
-  back-rest : Rest h v m (a ++ drop (h .plan .n * h .plan .t) v) (b ++ drop ((h .plan .n * h .plan .t + 7) / 8) m)
-  unfolding markBytes layoutOf layout
-  back-rest =
-      let g = k .good planned in
-      record {
-        block = part-rest (h .plan .n * h .plan .t) v a (omega (arith, places-most (h .plan) g, k .block-long)) a-long;
-        marks = part-rest ((h .plan .n * h .plan .t + 7) / 8) m b (omega (arith, bytes-most (h .plan) g, k .marks-long)) b-long;
-      }
-
-  before-state : stateOf h v m ≡ whole (h .plan) (take (h .plan .n * h .plan .t) v) (take ((h .plan .n * h .plan .t + 7) / 8) m)
-  unfolding stateOf markBytes layoutOf layout
-  before-state = rw planned
-
-  pub recovered-acts : {text : List ℕ} → Recovered (h .plan) (take (h .plan .n * h .plan .t) v) (take ((h .plan .n * h .plan .t + 7) / 8) m) text a b →
-      Acts Recover h v m text h (a ++ drop (h .plan .n * h .plan .t) v) (b ++ drop ((h .plan .n * h .plan .t + 7) / 8) m)
-  recovered-acts {text} r =
-      record {
-        means = unfold Means in
-            subst (λ s. Recovering s (stateOf h (a ++ drop (h .plan .n * h .plan .t) v) (b ++ drop ((h .plan .n * h .plan .t + 7) / 8) m)) text) (sym before-state)
-            (subst (λ s. Recovering (whole (h .plan) (take (h .plan .n * h .plan .t) v) (take ((h .plan .n * h .plan .t + 7) / 8) m)) s text) (sym back-state) (r .means));
-        kept = back-kept (r .spare);
-        rest = back-rest;
-      }
-
-  pub sealed-acts : Carries (layoutOf (h .plan)) a (map (at (take (h .plan .n * h .plan .t) v)) (messages (layoutOf (h .plan)))) →
-      b ≡ replicate (length (take ((h .plan .n * h .plan .t + 7) / 8) m)) 0 → {count : ℕ} {text : List ℕ} → count ≡ messageCount (layoutOf (h .plan)) →
-      text ≡ line sealedWord (count ∷ []) →
-      Acts Seal h v m text h (a ++ drop (h .plan .n * h .plan .t) v) (b ++ drop ((h .plan .n * h .plan .t + 7) / 8) m)
-  sealed-acts carries clear {count} {text} e f =
-      let g = k .good planned in
-      let ok = good-valid (h .plan) g in
-      record {
-        means = unfold Means stateOf in record {
-          places = messages (layoutOf (h .plan));
-          message-places = message-lists (layoutOf (h .plan)) ok;
-          block = a;
-          carries = carries;
-          state = back-state ∙ after;
-          says = f ∙ ap (λ x. line sealedWord (x ∷ [])) (e ∙ sym (message-number (h .plan) g));
-        };
-        kept = back-kept (rw clear (no-marks-no-spare (layoutOf (h .plan)) (length (take ((h .plan .n * h .plan .t + 7) / 8) m))));
-        rest = back-rest;
-      }
-    where
-      after : whole (h .plan) a b ≡ withBlock (stateOf h v m) a (replicate (markBytes (layoutOf (h .plan))) 0)
-      after = unfold withBlock stateOf markBytes layoutOf layout in
-          ap (whole (h .plan) a) (clear ∙ ap (λ x. replicate x 0) (length-take-le ((h .plan .n * h .plan .t + 7) / 8) m (omega (arith, bytes-most (h .plan) (k .good planned), k .marks-long))))

@@ -1,9 +1,6 @@
 -- Single commands of a job: what each means, and the state over lent buffers.
 pub mod Meaning
 pub mod Acts
-pub mod Wholes
 pub mod StateLaws
 pub mod ActLaws
-pub mod Fronts
-pub mod RecoverLaws
 pub mod MeaningOnce

@@ -3,7 +3,6 @@ ghost use mathlib.Core.Path.{_≡_};
 ghost use Rattle.act.specs.Acts.{blockLength, marksLength};
 use plan::Plan;
 
-pub mod blocks;
 pub mod plans;
 pub mod symbols;
 

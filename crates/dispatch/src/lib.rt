@@ -6,7 +6,6 @@ ghost use Rattle.lines.specs.Lines.{lineLength, Wrote};
 ghost use Rattle.state.specs.Refusals.{refusalOf};
 ghost use Rattle.act.specs.Acts.{stateOf, Kept, Acts};
 use act::Held;
-use act::blocks;
 use act::plans;
 use act::symbols;
 use commands::Command;

@@ -41,9 +41,9 @@ use Rattle.promises.specs.declared.Encoding.the-variants as encoding
 use Rattle.lines.specs.Lines.{line, recoveredWord, looseWord, crossedWord}
 use Rattle.state.specs.State.{withBlock}
 use Rattle.state.specs.MarkedLaws.{no-marks-no-spare}
 use Rattle.act.specs.Meaning.{Recovering}
-use Rattle.act.specs.Wholes.{Whole, Recovered, whole}
-use Rattle.act.specs.ActLaws.{message-number}
+use Rattle.blocks.specs.Wholes.{Whole, Recovered, whole}
+use Rattle.blocks.specs.BlockLaws.{message-number}
 
 pub plan-sized : (p : Plan) → verdictOf p ≡ verdict.Good → length (p .shifts) ≡ 32 → Sized (p .n) (p .t) (p .shifts)
 plan-sized p e l =

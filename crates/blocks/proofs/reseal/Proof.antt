@@ -5,11 +5,11 @@ use Prim.Native.Nat.{_≤_}
 use lib.ListN.{length}
 use Rattle.plan.specs.Plans.{layoutOf}
 use Rattle.plan.specs.Layout.{layout}
-use Rattle.act.specs.Fronts.{zeros-long, back-room, back-same, back-front}
-use Rattle.act.specs.RecoverLaws.{plan-sized, count-most, carried}
+use Rattle.blocks.specs.Fronts.{zeros-long, back-room, back-same, back-front}
+use Rattle.blocks.specs.RecoverLaws.{plan-sized, count-most, carried}
 use borrow.Author.Needs.{needs}
-use Rattle.act.proofs.blocks.reseal.Statement.{statement}
-use Rattle.act.proofs.blocks.reseal.Tie as tie
+use Rattle.blocks.proofs.reseal.Statement.{statement}
+use Rattle.blocks.proofs.reseal.Tie as tie
 
 slice-aggregate-runs : tie.Need-slice-aggregate-runs
 slice-aggregate-runs c = search needs

@@ -2,8 +2,8 @@
 use mathlib.Core.Path.{_≡_, refl, sym, _∙_}
 use Rattle.calls.specs.CallsLaws.{message-is, message-not}
 use borrow.Author.Needs.{needs}
-use Rattle.act.proofs.blocks.message_length.Statement.{statement}
-use Rattle.act.proofs.blocks.message_length.Tie as tie
+use Rattle.blocks.proofs.message_length.Statement.{statement}
+use Rattle.blocks.proofs.message_length.Tie as tie
 
 message-count-requires : tie.Need-message-count-requires
 message-count-requires c κs = search needs

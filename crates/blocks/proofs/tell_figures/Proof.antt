@@ -1,10 +1,10 @@
 -- The four figures of the plan are written.
-use Rattle.act.specs.ActLaws.{figured}
-use Rattle.act.specs.RecoverLaws.{figures-are, figures-never}
+use Rattle.blocks.specs.BlockLaws.{figured}
+use Rattle.blocks.specs.RecoverLaws.{figures-are, figures-never}
 use Rattle.lines.specs.LinesLaws.{wrote-front}
 use borrow.Author.Needs.{needs}
-use Rattle.act.proofs.blocks.tell_figures.Statement.{statement}
-use Rattle.act.proofs.blocks.tell_figures.Tie as tie
+use Rattle.blocks.proofs.tell_figures.Statement.{statement}
+use Rattle.blocks.proofs.tell_figures.Tie as tie
 
 figures-requires : tie.Need-figures-requires
 figures-requires c κs = search needs

@@ -1,12 +1,12 @@
 -- The front parts of the buffers are sealed and cleared.
 use mathlib.Core.Path.{_≡_, refl, sym, _∙_}
 use native.Mathlib.Omega.{arith}
 use Rattle.act.specs.StateLaws.{places-most, places-fit, bytes-fit, front-long}
-use Rattle.act.specs.ActLaws.{lent-whole, sealed-acts}
+use Rattle.blocks.specs.BlockLaws.{lent-whole, sealed-acts}
 use Rattle.lines.specs.LinesLaws.{wrote-front}
 use borrow.Author.Needs.{needs}
-use Rattle.act.proofs.blocks.seal_state.Statement.{statement}
-use Rattle.act.proofs.blocks.seal_state.Tie as tie
+use Rattle.blocks.proofs.seal_state.Statement.{statement}
+use Rattle.blocks.proofs.seal_state.Tie as tie
 
 mul-places : tie.Need-mul-places
 mul-places c = let p = c .before .before .before .before .before .pre in omega (arith, places-most _ (p .0 .good (p .2)))
