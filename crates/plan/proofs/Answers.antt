@@ -9,8 +9,8 @@ use borrow.Author.Tests.{le-leb, lt-leb, eq-eqb, ne-eqb, not-true, not-false}
 use Rattle.math.specs.Tests.{no-right}
 use Rattle.math.specs.Members.{upTo}
 use Rattle.bounds.specs.Bounds.{sizeFits, allBelow}
-use Rattle.shifts.specs.Families.{powersNeed}
-use Rattle.shifts.specs.Ruler.{rulerT, rulerShifts}
+use Rattle.families.specs.Families.{powersNeed}
+use Rattle.ruler.specs.Ruler.{rulerT, rulerShifts}
 use Rattle.plan.specs.Plans.{verdictOf, made, refused, planOf, straightOf, powersOf, rulerOf}
 use Rattle.plan.specs.declared.Plan.{Plan}
 use Rattle.plan.specs.declared.Verdict.the-variants.{Good, Size, Shift, Family}

@@ -16,8 +16,8 @@ use Rattle.math.specs.Members.{upTo}
 use Rattle.math.specs.MembersLaws.{upTo-∈, rising-upTo, length-upTo, getD-upTo, upTo-suc}
 use Rattle.bounds.specs.Bounds.{sizeFits, allBelow, minN, maxN, minT, maxT, maxPlaces}
 use Rattle.plan.specs.Layout.{Layout, Valid, divisor, messageCount, bottomRow, topRow, top, bottom}
-use Rattle.shifts.specs.Families.{powersNeed}
-use Rattle.shifts.specs.Ruler.{rulerT, rulerShifts}
+use Rattle.families.specs.Families.{powersNeed}
+use Rattle.ruler.specs.Ruler.{rulerT, rulerShifts}
 use Rattle.shifts.specs.Shifts.{gaps}
 use Rattle.plan.specs.Plans.{numberOf, layoutOf, verdictOf, made, refused, planOf, family, straightOf, powersOf, rulerOf, countOf, messageCountOf}
 use Rattle.plan.specs.declared.Plan.{Plan}
@@ -27,7 +27,7 @@ use Rattle.plan.specs.declared.Verdict.the-variants.{Good, Size, Shift, 
 use Rattle.plan.specs.declared.Count.the-variants.{Is}
 use Rattle.math.specs.Tests.{and-left, and-right}
 use Rattle.shifts.specs.ShiftsLaws.{take-padded, below-allBelow}
-use Rattle.shifts.specs.RulerLaws.{ruler-length, ruler-below, ruler-fits}
+use Rattle.ruler.specs.RulerLaws.{ruler-length, ruler-below, ruler-fits}
 
 -- n, t and n × t within bounds
 pub record Fitting (n t : ℕ) : Type 0 where

@@ -8,8 +8,8 @@ use Rattle.math.specs.Members.{upTo}
 use Rattle.bounds.specs.Bounds.{minN, maxN, sizeFits, allBelow}
 use Rattle.shifts.specs.Shifts.{padded}
 use Rattle.plan.specs.Layout.{Layout, layout, messageCount}
-use Rattle.shifts.specs.Families.{powersNeed}
-use Rattle.shifts.specs.Ruler.{rulerMin, rulerMax, rulerT, rulerShifts}
+use Rattle.families.specs.Families.{powersNeed}
+use Rattle.ruler.specs.Ruler.{rulerMin, rulerMax, rulerT, rulerShifts}
 use Rattle.plan.specs.declared.Plan.{Plan}
 use Rattle.plan.specs.declared.Made.{Made}
 use Rattle.plan.specs.declared.Verdict.{Verdict}

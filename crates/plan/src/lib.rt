@@ -7,8 +7,6 @@ ghost use Prim.Native.Nat.{ℕ};
 ghost use Rattle.shifts.specs.Shifts.{padded};
 ghost use Rattle.plan.specs.Plans as plans;
 ghost use Rattle.plan.specs.Plans.{numberOf, verdictOf, planOf, straightOf, powersOf, rulerOf, messageCountOf};
-use shifts::families;
-use shifts::ruler;
 
 pub mod places;
 pub mod ties;

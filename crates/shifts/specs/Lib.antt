@@ -1,6 +1,3 @@
--- The shifts of a plan: the arrays that hold them, the condition of the powers, the rulers.
+-- The shifts of a plan: the arrays that hold them.
 pub mod Shifts
-pub mod Families
-pub mod Ruler
 pub mod ShiftsLaws
-pub mod RulerLaws

@@ -1,5 +1,5 @@
 // The shifts of a plan: the test that each is below t, the arrays of 32 that hold them, and the divisor g.
-// Entry: gcd. The rest, with the modules families and ruler, is public for the crates above only.
+// Entry: gcd. The rest is public for the crates above only.
 ghost use mathlib.Core.Path.{_≡_};
 ghost use mathlib.Core.List.{map};
 ghost use Prim.Native.Nat.{_+_, _*_, _^_, _%_, _<_, _≤_};
@@ -8,9 +8,6 @@ ghost use Rattle.math.specs.Members.{upTo};
 ghost use Rattle.math.specs.Gcd.{gcd as gcdOf, gap as gapOf, gcdAll};
 ghost use Rattle.bounds.specs.Bounds.{maxN, maxT, allBelow};
 ghost use Rattle.shifts.specs.Shifts.{padded, gaps};
-
-pub mod families;
-pub mod ruler;
 
 // Refusal 2 is this test's false.
 pub fn all_below(s: &[u16], t: usize) -> bool

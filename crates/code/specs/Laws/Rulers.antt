@@ -6,8 +6,8 @@ use native.Mathlib.Omega.{arith}
 use lib.ListN.{length, getD}
 use Rattle.math.specs.MembersLaws.{upTo-∈, length-upTo, rising-upTo}
 use Rattle.plan.specs.Layout.{Layout, Valid, layout}
-use Rattle.shifts.specs.Ruler.{rulerT, rulerShifts, RulerRule}
-use Rattle.shifts.specs.RulerLaws.{rulers-keep-rule, ruler-length, ruler-below, ruler-wide}
+use Rattle.ruler.specs.Ruler.{rulerT, rulerShifts, RulerRule}
+use Rattle.ruler.specs.RulerLaws.{rulers-keep-rule, ruler-length, ruler-below, ruler-wide}
 use Rattle.shifts.specs.ShiftsLaws.{allBelow-below}
 use Rattle.code.specs.Figures.{Ruler, Least, NonzeroWeight}
 use Rattle.code.specs.Laws.Distance.{distance-ruler}

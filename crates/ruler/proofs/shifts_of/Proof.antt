@@ -1,15 +1,15 @@
 -- `ruler::shifts_of` meets its contract. The loop's invariant: the array holds the first i shifts of the row. Assumes nothing.
 use Prim.Native.Nat.{_≤_, _-_}
-use Rattle.shifts.specs.Ruler.{rulerShifts}
-use Rattle.shifts.specs.RulerLaws.{ruler-length, ruler-shift}
+use Rattle.ruler.specs.Ruler.{rulerShifts}
+use Rattle.ruler.specs.RulerLaws.{ruler-length, ruler-shift}
 use Rattle.shifts.specs.Shifts.{padded}
 use Rattle.shifts.specs.ShiftsLaws.{padded-none, copied-more, copied-done}
 use borrow.Author.Needs.{needs}
 use lib.ListN.{take}
 use mathlib.Core.Path.{_≡_, _∙_}
 use native.Mathlib.Omega.{arith}
-use Rattle.shifts.proofs.ruler.shifts_of.Statement.{statement}
-use Rattle.shifts.proofs.ruler.shifts_of.Tie as tie
+use Rattle.ruler.proofs.shifts_of.Statement.{statement}
+use Rattle.ruler.proofs.shifts_of.Tie as tie
 
 abbrev Inv-loop : tie.InvT-loop
 Inv-loop n a₀ i₀ a i = (i ≤ n) × (a ≡ padded (take i (rulerShifts n)))

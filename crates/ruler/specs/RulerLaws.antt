@@ -15,7 +15,7 @@ use Rattle.math.specs.Gcd.{gcd, gap}
 use Rattle.math.specs.Members.{upTo}
 use Rattle.math.specs.Sums.{sumOver, only}
 use Rattle.bounds.specs.Bounds.{sizeFits, allBelow}
-use Rattle.shifts.specs.Ruler.{rulers, rulerT, rulerShifts, RulerRule}
+use Rattle.ruler.specs.Ruler.{rulers, rulerT, rulerShifts, RulerRule}
 use Rattle.math.specs.Tests.{every, every-at}
 
 -- the difference of two shifts

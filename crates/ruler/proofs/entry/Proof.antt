@@ -1,10 +1,10 @@
 -- `ruler::entry` meets its contract: the code's table is the flat table of the rulers. Assumes nothing.
-use Rattle.shifts.specs.Ruler.{rulers}
-use Rattle.shifts.specs.RulerLaws.{flat, flat-entry}
+use Rattle.ruler.specs.Ruler.{rulers}
+use Rattle.ruler.specs.RulerLaws.{flat, flat-entry}
 use borrow.Author.Needs.{needs}
 use native.Mathlib.Omega.{arith}
-use Rattle.shifts.proofs.ruler.entry.Statement.{statement}
-use Rattle.shifts.proofs.ruler.entry.Tie as tie
+use Rattle.ruler.proofs.entry.Statement.{statement}
+use Rattle.ruler.proofs.entry.Tie as tie
 
 sub-result : tie.Need-sub-result
 sub-result c = search needs

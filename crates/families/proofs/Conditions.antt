@@ -6,7 +6,7 @@ use lib.Dec.{eqb}
 use borrow.Author.Tests.{le-leb, lt-leb, eq-eqb, ne-eqb}
 use Rattle.math.specs.Gcd.{gcd}
 use Rattle.math.specs.Tests.{no-right}
-use Rattle.shifts.specs.Families.{powersNeed}
+use Rattle.families.specs.Families.{powersNeed}
 
 module _ (n t q : ℕ) where
   pub need-few : n < 3 → powersNeed n t q ≡ false

@@ -4,8 +4,8 @@ ghost use mathlib.Core.Path.{_≡_};
 ghost use Prim.Native.Nat.{_-_, _≤_};
 ghost use mathlib.Core.List.{[]};
 ghost use lib.ListN.{getD};
 ghost use Rattle.shifts.specs.Shifts.{padded};
-ghost use Rattle.shifts.specs.Ruler.{rulers, rulerMin, rulerMax, rulerT, rulerShifts};
+ghost use Rattle.ruler.specs.Ruler.{rulers, rulerMin, rulerMax, rulerT, rulerShifts};
 
 pub const MIN_N: usize = 3;
 

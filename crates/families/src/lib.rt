@@ -1,8 +1,8 @@
 // The conditions of the families of plans.
 // Public for the crates above only.
 ghost use mathlib.Core.Path.{_≡_};
-ghost use Rattle.shifts.specs.Families.{powersNeed};
-use crate::gcd;
+ghost use Rattle.families.specs.Families.{powersNeed};
+use shifts::gcd;
 
 pub fn powers_need(n: usize, t: usize, q: usize) -> bool
     ensures { λ r. ⌜ r ≡ powersNeed n t q ⌝ }

@@ -1,8 +1,8 @@
 -- `ruler::t_of` meets its contract. Assumes nothing.
-use Rattle.shifts.specs.Ruler.{rulerT}
+use Rattle.ruler.specs.Ruler.{rulerT}
 use borrow.Author.Needs.{needs}
-use Rattle.shifts.proofs.ruler.t_of.Statement.{statement}
-use Rattle.shifts.proofs.ruler.t_of.Tie as tie
+use Rattle.ruler.proofs.t_of.Statement.{statement}
+use Rattle.ruler.proofs.t_of.Tie as tie
 
 entry-requires : tie.Need-entry-requires
 entry-requires c κs = search needs

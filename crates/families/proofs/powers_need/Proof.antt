@@ -1,10 +1,10 @@
 -- `families::powers_need` meets its contract: each answer by the test that gives it. Assumes nothing.
-use Rattle.shifts.proofs.Conditions.{need-few, need-narrow, need-small, need-factor, need-last}
+use Rattle.families.proofs.Conditions.{need-few, need-narrow, need-small, need-factor, need-last}
 use borrow.Author.Needs.{needs}
 use mathlib.Core.Path.{sym, _∙_}
 use native.Mathlib.Omega.{arith}
-use Rattle.shifts.proofs.families.powers_need.Statement.{statement}
-use Rattle.shifts.proofs.families.powers_need.Tie as tie
+use Rattle.families.proofs.powers_need.Statement.{statement}
+use Rattle.families.proofs.powers_need.Tie as tie
 
 returns : tie.Need-returns
 returns c = sym (need-few _ _ _ (omega arith))

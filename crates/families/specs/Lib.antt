@@ -1,0 +1,2 @@
+-- The condition of the powers.
+pub mod Families

@@ -1,0 +1,3 @@
+-- The rulers, and their laws.
+pub mod Ruler
+pub mod RulerLaws
