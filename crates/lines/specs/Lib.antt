@@ -1,5 +1,3 @@
 -- The lines of the sheet, their laws, and how long they are.
 pub mod Lines
-pub mod DecimalLaws
-pub mod DigitLoops
 pub mod LinesLaws

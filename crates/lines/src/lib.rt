@@ -7,10 +7,6 @@ ghost use lib.ListN.{length, take};
 ghost use Rattle.lines.specs.Lines.{lineLength, Wrote};
 ghost use Rattle.lines.specs.Lines.{line as lineOf};
 ghost use Rattle.lines.specs.Lines.{recoveredWord, looseWord, crossedWord, sealedWord, symbolWord, figuresWord, refusedWord, endWord};
-
-mod digits;
-mod pieces;
-
 use pieces::finish;
 use pieces::put_list;
 use pieces::put_number;

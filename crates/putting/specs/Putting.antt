@@ -4,7 +4,7 @@ use mathlib.Core.Path.{_≡_}
 use mathlib.Core.List.{List}
 use Prim.Native.Nat.{ℕ, _+_, _^_, _≤_, _<_}
 use lib.ListN.{length, take}
-use Rattle.lines.specs.Lines.{Appends}
+use Rattle.pieces.specs.Pieces.{Appends}
 use Rattle.calls.specs.declared.Refusal.{Refusal}
 use Rattle.turns.specs.declared.Turn.{Turn}
 use Rattle.turns.specs.declared.Turn.the-variants.{Wait, End, Stop, On, Bad}

@@ -17,7 +17,8 @@ use Rattle.code.specs.Marks.{markBytes}
 use Rattle.commands.specs.Commands.{sizeOf, parsed}
 use Rattle.commands.specs.declared.Command.{Command}
 use Rattle.commands.specs.declared.Parsed.the-variants.{Whole}
-use Rattle.lines.specs.Lines.{lineLength, Appends}
+use Rattle.pieces.specs.Pieces.{Appends}
+use Rattle.lines.specs.Lines.{lineLength}
 use Rattle.state.specs.State.{State}
 use Rattle.state.specs.Refusals.{refusalOf}
 use Rattle.act.specs.Acts.{blockLength, marksLength, stateOf, Kept, Acts}

@@ -2,7 +2,7 @@
 use borrow.Author.Needs.{needs}
 use native.Mathlib.Omega.{arith}
 use Rattle.lines.specs.Lines.{figuresWord}
-use Rattle.lines.specs.DecimalLaws.{length-decimal-64}
+use Rattle.pieces.specs.DecimalLaws.{length-decimal-64}
 use Rattle.lines.specs.LinesLaws.{begun, more, ended}
 use Rattle.lines.proofs.figures_line.Statement.{statement}
 use Rattle.lines.proofs.figures_line.Tie as tie

@@ -2,7 +2,7 @@
 use borrow.Author.Needs.{needs}
 use native.Mathlib.Omega.{arith}
 use Prim.Native.Nat.{_<_}
-use Rattle.lines.specs.DecimalLaws.{length-decimal-5}
+use Rattle.pieces.specs.DecimalLaws.{length-decimal-5}
 use Rattle.lines.specs.LinesLaws.{begun, more, more-list, ended}
 use Rattle.lines.proofs.listed.Statement.{statement}
 use Rattle.lines.proofs.listed.Tie as tie

@@ -1,7 +1,7 @@
 -- `one_number` meets its contract: piece after piece. Assumes nothing.
 use borrow.Author.Needs.{needs}
 use native.Mathlib.Omega.{arith}
-use Rattle.lines.specs.DecimalLaws.{length-decimal-64}
+use Rattle.pieces.specs.DecimalLaws.{length-decimal-64}
 use Rattle.lines.specs.LinesLaws.{begun, more, ended}
 use Rattle.lines.proofs.one_number.Statement.{statement}
 use Rattle.lines.proofs.one_number.Tie as tie

@@ -1,9 +1,9 @@
 -- `spell` meets its contract: the record Spelling is its invariant. Assumes nothing.
 use mathlib.Core.Path.{_≡_, refl, subst}
 use native.Mathlib.Omega.{arith}
-use Rattle.lines.specs.DigitLoops.{Spelling, spelling-start, spelling-step, spelling-end}
-use Rattle.lines.proofs.digits.spell.Statement.{statement}
-use Rattle.lines.proofs.digits.spell.Tie as tie
+use Rattle.pieces.specs.DigitLoops.{Spelling, spelling-start, spelling-step, spelling-end}
+use Rattle.pieces.proofs.digits.spell.Statement.{statement}
+use Rattle.pieces.proofs.digits.spell.Tie as tie
 
 abbrev Inv-loop : tie.InvT-loop
 Inv-loop line₀ at k n i₀ rest₀ line i rest = Spelling line₀ at k n i rest line

@@ -3,10 +3,10 @@ use borrow.Author.Needs.{needs}
 use mathlib.Core.Path.{_∙_}
 use native.Mathlib.Omega.{arith}
 use lib.ListN.{length-set}
-use Rattle.lines.specs.DecimalLaws.{length-decimal-is}
-use Rattle.lines.specs.LinesLaws.{appends-number}
-use Rattle.lines.proofs.pieces.put_number.Statement.{statement}
-use Rattle.lines.proofs.pieces.put_number.Tie as tie
+use Rattle.pieces.specs.DecimalLaws.{length-decimal-is}
+use Rattle.pieces.specs.PiecesLaws.{appends-number}
+use Rattle.pieces.proofs.put_number.Statement.{statement}
+use Rattle.pieces.proofs.put_number.Tie as tie
 
 width-requires : tie.Need-width-requires
 width-requires c κs = search needs

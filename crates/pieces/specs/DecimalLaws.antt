@@ -11,7 +11,7 @@ use lib.ListN.{length, length-append}
 use lib.Seq.{append-snoc}
 use borrow.Author.Tests.{lt-ltb, le-ltb}
 use Rattle.io.specs.Digits.{digits, Fewest}
-use Rattle.lines.specs.Lines.{widthFrom, decimal}
+use Rattle.pieces.specs.Pieces.{widthFrom, decimal}
 
 -- the search finds the fewest digits that hold n
 width-from : (fuel j n k : ℕ) → j ≤ k → k ≤ j + fuel → n < 10 ^ k → (j < k → 10 ^ (k - 1) ≤ n) → widthFrom fuel j n ≡ k

@@ -4,7 +4,7 @@ ghost use mathlib.Core.List.{_++_};
 ghost use Prim.Native.Nat.{_+_, _≤_};
 ghost use lib.ListN.{length, take, drop};
 ghost use Rattle.io.specs.Digits.{digits};
-ghost use Rattle.lines.specs.Lines.{widthFrom};
+ghost use Rattle.pieces.specs.Pieces.{widthFrom};
 
 // The number of decimal digits, by powers of ten: no division.
 pub fn width(n: u64) -> usize

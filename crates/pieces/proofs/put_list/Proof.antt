@@ -3,11 +3,11 @@ use Prim.Native.Nat.{_+_, _-_, _*_, _≤_, _<_}
 use mathlib.Core.Path.{_≡_, subst}
 use native.Mathlib.Omega.{arith}
 use lib.ListN.{getD, take}
-use Rattle.lines.specs.Lines.{fields, Appends}
-use Rattle.lines.specs.DecimalLaws.{length-decimal-5}
-use Rattle.lines.specs.LinesLaws.{appends-none, appends-entry}
-use Rattle.lines.proofs.pieces.put_list.Statement.{statement}
-use Rattle.lines.proofs.pieces.put_list.Tie as tie
+use Rattle.pieces.specs.Pieces.{fields, Appends}
+use Rattle.pieces.specs.DecimalLaws.{length-decimal-5}
+use Rattle.pieces.specs.PiecesLaws.{appends-none, appends-entry}
+use Rattle.pieces.proofs.put_list.Statement.{statement}
+use Rattle.pieces.proofs.put_list.Tie as tie
 
 abbrev Inv-loop : tie.InvT-loop
 Inv-loop line₀ at list k to₀ i₀ line to i = (i ≤ k) × (to ≤ at + 6 * i) × Appends line₀ at (fields (take i list)) line to

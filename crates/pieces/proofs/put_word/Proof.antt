@@ -5,10 +5,10 @@ use native.Mathlib.Nat.{add-zero}
 use native.Mathlib.Omega.{arith}
 use lib.ListN.{length, take}
 use lib.Seq.{take-length}
-use Rattle.lines.specs.Lines.{Appends}
-use Rattle.lines.specs.LinesLaws.{appends-none, appends-next}
-use Rattle.lines.proofs.pieces.put_word.Statement.{statement}
-use Rattle.lines.proofs.pieces.put_word.Tie as tie
+use Rattle.pieces.specs.Pieces.{Appends}
+use Rattle.pieces.specs.PiecesLaws.{appends-none, appends-next}
+use Rattle.pieces.proofs.put_word.Statement.{statement}
+use Rattle.pieces.proofs.put_word.Tie as tie
 
 abbrev Inv-loop : tie.InvT-loop
 Inv-loop line₀ at word i₀ line i = (i ≤ length word) × Appends line₀ at (take i word) line (at + i)

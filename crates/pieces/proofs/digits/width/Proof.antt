@@ -2,9 +2,9 @@
 use Prim.Native.Nat.{_-_}
 use mathlib.Core.Path.{_≡_, _∙_}
 use native.Mathlib.Omega.{arith}
-use Rattle.lines.specs.DigitLoops.{Widening, widening-start, widening-fits, widening-step, widening-found, widening-last}
-use Rattle.lines.proofs.digits.width.Statement.{statement}
-use Rattle.lines.proofs.digits.width.Tie as tie
+use Rattle.pieces.specs.DigitLoops.{Widening, widening-start, widening-fits, widening-step, widening-found, widening-last}
+use Rattle.pieces.proofs.digits.width.Statement.{statement}
+use Rattle.pieces.proofs.digits.width.Tie as tie
 
 abbrev Inv-loop : tie.InvT-loop
 Inv-loop n k₀ power₀ k power = Widening n k power

@@ -10,8 +10,8 @@ use native.Mathlib.Omega.{arith}
 use lib.ListN.{length, take, drop, set, length-set}
 use lib.Seq.{length-take-le, take-set-lt, drop-set-lt, take-suc-set, set-append-left, append-snoc}
 use Rattle.io.specs.Digits.{digits}
-use Rattle.lines.specs.Lines.{widthFrom}
-use Rattle.lines.specs.DecimalLaws.{width-is, moved}
+use Rattle.pieces.specs.Pieces.{widthFrom}
+use Rattle.pieces.specs.DecimalLaws.{width-is, moved}
 
 pub record Widening (n k power : ℕ) : Type 0 where
   pub least : 1 ≤ k

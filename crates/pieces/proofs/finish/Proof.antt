@@ -1,9 +1,9 @@
 -- `finish` meets its contract: one byte more. Assumes nothing.
 use borrow.Author.Needs.{needs}
 use native.Mathlib.Omega.{arith}
-use Rattle.lines.specs.LinesLaws.{appends-byte}
-use Rattle.lines.proofs.pieces.finish.Statement.{statement}
-use Rattle.lines.proofs.pieces.finish.Tie as tie
+use Rattle.pieces.specs.PiecesLaws.{appends-byte}
+use Rattle.pieces.proofs.finish.Statement.{statement}
+use Rattle.pieces.proofs.finish.Tie as tie
 
 slice-write-line : tie.Need-slice-write-line
 slice-write-line c = search needs

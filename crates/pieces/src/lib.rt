@@ -2,9 +2,11 @@
 ghost use mathlib.Core.List.{[], _∷_};
 ghost use Prim.Native.Nat.{suc, _+_, _*_, _≤_};
 ghost use lib.ListN.{length, take};
-ghost use Rattle.lines.specs.Lines.{decimal, fields, Appends};
-use crate::digits::spell;
-use crate::digits::width;
+ghost use Rattle.pieces.specs.Pieces.{decimal, fields, Appends};
+use digits::spell;
+use digits::width;
+
+mod digits;
 
 pub fn put_word(line: &mut [u8], at: usize, word: &[u8]) -> usize
     requires { ⌜ at + length (now word) ≤ length (now line) ⌝ }
