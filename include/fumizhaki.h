@@ -3,7 +3,7 @@
  *
  * The library is target/staticlib/libcapi.a, for x86-64 Linux, made by `rt staticlib capi`. It is proved: what
  * each function promises is its contract in crates/capi/src/lib.rt, with the definitions of
- * crates/capi/specs/Entries.antt, and Meanings.antt beside it says it number by number. The declarations below are
+ * crates/numbers/specs/Entries.antt, and Meanings.antt beside it says it number by number. The declarations below are
  * written by hand beside that crate, and the comments say the same in words; numbers and rules are document 01's.
  *
  * A block has n sections of t symbols; a symbol is a byte. Place c = j * t + k is symbol k of section j. It meets two

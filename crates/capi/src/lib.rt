@@ -1,31 +1,15 @@
 // The C entry points: each hands its arguments to an entry of the library and gives the answer back as a number of document 01's table.
-// Declared for C in include/fumizhaki.h. What each promises is in specs/Entries.antt.
+// Declared for C in include/fumizhaki.h. What each promises is in the crate numbers, specs/Entries.antt.
 ghost use mathlib.Core.Path.{_≡_};
 ghost use Rattle.plan.specs.Plans.{numberOf, verdictOf, planOf, straightOf, powersOf, rulerOf, messageCountOf};
 ghost use Rattle.calls.specs.Calls.{countedOf, countedNumber};
-ghost use Rattle.capi.specs.Entries.{numbered, messageNumber, messageValue, countedValue, FiguresOut, RecoverOut, EncodeOut, MessageOut};
-use calls::Counted;
-use figures::Answer;
-use plan::Count;
+ghost use Rattle.numbers.specs.Entries.{numbered, messageNumber, messageValue, countedValue, FiguresOut, RecoverOut, EncodeOut, MessageOut};
+use numbers::Made;
+use numbers::number_erasure_count;
+use numbers::number_figures;
+use numbers::number_made;
+use numbers::number_message_count;
 use plan::Plan;
-
-// A constructor's answer by its number, with the plan beside it; a refusal makes none, and the record is all zeros.
-#[repr(C)]
-pub struct Made {
-    pub answer: u8,
-    pub plan: Plan,
-}
-
-fn number_made(made: plan::Made) -> Made
-    ensures { λ r. ⌜ r ≡ numbered made ⌝ }
-{
-    let answer = made.answer;
-    let plan = made.plan;
-    Made {
-        answer: answer.number(),
-        plan,
-    }
-}
 
 #[no_mangle]
 pub extern "C" fn fumizhaki_plan_of(n: usize, t: usize, shifts: &[u16]) -> Made
@@ -67,16 +51,7 @@ pub extern "C" fn fumizhaki_message_count(plan: Plan, count: &mut usize) -> u8
     ensures { λ r. ⌜ r ≡ messageNumber (messageCountOf plan) ⌝ }
     ensures { λ _. ⌜ now (count .exit) ≡ messageValue (messageCountOf plan) ⌝ }
 {
-    match plan.message_count() {
-        Count::Is(k) => {
-            *count = k;
-            0
-        }
-        Count::Not(v) => {
-            *count = 0;
-            v.number()
-        }
-    }
+    number_message_count(plan, count)
 }
 
 #[no_mangle]
@@ -89,22 +64,7 @@ pub extern "C" fn fumizhaki_figures(
 ) -> u8
     ensures { λ r. ⌜ FiguresOut plan r (now (parity .exit)) (now (pair .exit)) (now (neighbour .exit)) (now (distance .exit)) ⌝ }
 {
-    match figures::figures(plan) {
-        Answer::Are(f) => {
-            *parity = f.parity;
-            *pair = f.pair;
-            *neighbour = f.neighbour;
-            *distance = f.distance;
-            0
-        }
-        Answer::Not(v) => {
-            *parity = 0;
-            *pair = 0;
-            *neighbour = 0;
-            *distance = 0;
-            v.number()
-        }
-    }
+    number_figures(plan, parity, pair, neighbour, distance)
 }
 
 #[no_mangle]
@@ -112,16 +72,7 @@ pub extern "C" fn fumizhaki_erasure_count(plan: Plan, marks: &[u8], count: &mut 
     ensures { λ r. ⌜ r ≡ countedNumber (countedOf plan (now (marks .entry))) ⌝ }
     ensures { λ _. ⌜ now (count .exit) ≡ countedValue (countedOf plan (now (marks .entry))) ⌝ }
 {
-    match calls::erasure_count(plan, marks) {
-        Counted::Marks(z) => {
-            *count = z;
-            0
-        }
-        Counted::Refused(x) => {
-            *count = 0;
-            x.number()
-        }
-    }
+    number_erasure_count(plan, marks, count)
 }
 
 #[no_mangle]

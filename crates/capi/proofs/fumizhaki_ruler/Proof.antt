@@ -1,7 +1,7 @@
 -- `fumizhaki_ruler` meets its contract: the constructor's answer, numbered. Assumes nothing.
 use borrow.Author.Needs.{needs}
 use mathlib.Core.Path.{_∙_, ap}
-use Rattle.capi.specs.Entries.{numbered}
+use Rattle.numbers.specs.Entries.{numbered}
 use Rattle.capi.proofs.fumizhaki_ruler.Statement.{statement}
 use Rattle.capi.proofs.fumizhaki_ruler.Tie as tie
 

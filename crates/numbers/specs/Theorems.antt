@@ -32,8 +32,8 @@ use Rattle.promises.specs.declared.Encoding.{Encoding}
 use Rattle.promises.specs.declared.Encoding.the-variants as encoding
 use Rattle.promises.specs.declared.Reading.{Reading}
 use Rattle.promises.specs.declared.Reading.the-variants as reading
-use Rattle.capi.specs.Entries.{RecoverOut, EncodeOut, MessageOut}
-use Rattle.capi.specs.Meanings.{RecoverMeans, EncodeMeans, MessageMeans}
+use Rattle.numbers.specs.Entries.{RecoverOut, EncodeOut, MessageOut}
+use Rattle.numbers.specs.Meanings.{RecoverMeans, EncodeMeans, MessageMeans}
 
 -- the numbers of refusals are 1 to 4, and different
 refusal-bounds : (x : Refusal) → (0 < refusalNumber x) × (refusalNumber x < 5)

@@ -1,10 +1,10 @@
--- `fumizhaki_erasure_count` meets its contract: the answer's number and its count, case by case. Assumes nothing.
+-- `number_erasure_count` meets its contract: the answer's number and its count, case by case. Assumes nothing.
 use borrow.Author.Needs.{needs}
 use mathlib.Core.Path.{sym, _∙_, ap}
 use Rattle.calls.specs.Calls.{countedNumber}
-use Rattle.capi.specs.Entries.{countedValue}
-use Rattle.capi.proofs.fumizhaki_erasure_count.Statement.{statement}
-use Rattle.capi.proofs.fumizhaki_erasure_count.Tie as tie
+use Rattle.numbers.specs.Entries.{countedValue}
+use Rattle.numbers.proofs.number_erasure_count.Statement.{statement}
+use Rattle.numbers.proofs.number_erasure_count.Tie as tie
 
 erasure-count-requires : tie.Need-erasure-count-requires
 erasure-count-requires c κs = search needs
@@ -28,7 +28,7 @@ returns-2 c =
     let e = sym (c .before .before .x .given .1) ∙ c .before .before .before .before .erasure-count .ensures in
     (c .number .ensures ∙ ap countedNumber e, ap countedValue e)
 
-pub fumizhaki-erasure-count-spec : {M : Type 1} → statement M
-fumizhaki-erasure-count-spec =
+pub number-erasure-count-spec : {M : Type 1} → statement M
+number-erasure-count-spec =
     tie.close
     (tie.spec erasure-count-requires enum-known-z enum-known-x number-requires returns returns-2)

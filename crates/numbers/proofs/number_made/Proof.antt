@@ -1,8 +1,8 @@
 -- `number_made` meets its contract: field by field. Assumes nothing.
 use borrow.Author.Needs.{needs}
-use Rattle.capi.specs.Entries.{numbered}
-use Rattle.capi.proofs.number_made.Statement.{statement}
-use Rattle.capi.proofs.number_made.Tie as tie
+use Rattle.numbers.specs.Entries.{numbered}
+use Rattle.numbers.proofs.number_made.Statement.{statement}
+use Rattle.numbers.proofs.number_made.Tie as tie
 
 number-requires : tie.Need-number-requires
 number-requires c κs = search needs

@@ -10,7 +10,7 @@ use Rattle.plan.specs.declared.Verdict.the-variants.{Good, Size, Shift, Family}
 use Rattle.figures.specs.Answers.{Answered}
 use Rattle.figures.specs.declared.Four.{Four}
 use Rattle.figures.specs.declared.Answer.the-variants.{Are, Not}
-use Rattle.capi.specs.Entries.{FiguresOut}
+use Rattle.numbers.specs.Entries.{FiguresOut}
 
 -- the number 0 is that of a good verdict only
 number-good : (v : Verdict) → numberOf v ≡ 0 → v ≡ Good

@@ -1,8 +1,8 @@
--- `fumizhaki_figures` meets its contract: the answer's figures, or zeros beside its refusal. Assumes nothing.
+-- `number_figures` meets its contract: the answer's figures, or zeros beside its refusal. Assumes nothing.
 use borrow.Author.Needs.{needs}
-use Rattle.capi.specs.EntryLaws.{figures-done, figures-refused}
-use Rattle.capi.proofs.fumizhaki_figures.Statement.{statement}
-use Rattle.capi.proofs.fumizhaki_figures.Tie as tie
+use Rattle.numbers.specs.EntryLaws.{figures-done, figures-refused}
+use Rattle.numbers.proofs.number_figures.Statement.{statement}
+use Rattle.numbers.proofs.number_figures.Tie as tie
 
 figures-requires : tie.Need-figures-requires
 figures-requires c κs = search needs
@@ -24,7 +24,7 @@ returns-2 c =
     rw (c .number .ensures)
     (figures-refused _ _ (rw (c .before .before .v .given .1) at (c .before .before .before .before .figures .ensures)))
 
-pub fumizhaki-figures-spec : {M : Type 1} → statement M
-fumizhaki-figures-spec =
+pub number-figures-spec : {M : Type 1} → statement M
+number-figures-spec =
     tie.close
     (tie.spec figures-requires enum-known-f enum-known-v number-requires returns returns-2)

@@ -18,7 +18,7 @@ use Rattle.promises.specs.Promises.{Recovers, Encodes, Reads}
 use Rattle.promises.specs.declared.Recovery.{Recovery}
 use Rattle.promises.specs.declared.Encoding.{Encoding}
 use Rattle.promises.specs.declared.Reading.{Reading}
-use Rattle.capi.specs.declared.Made.{Made}
+use Rattle.numbers.specs.declared.Made.{Made}
 
 -- fumizhaki_plan_of, _straight, _powers, _ruler: the constructor's answer by its number, with its plan; a refusal's plan is all zeros
 unfoldable pub numbered : PlanMade → Made
