@@ -1,6 +1,6 @@
 // A plan: n sections of t symbols, each section with its shift. What refuses a plan, and the families of plans.
 // Entries: Verdict::number, Plan::verdict, Plan::of, Plan::straight, Plan::powers, Plan::ruler, Plan::message_count.
-// The modules places and ties are public for the crates above only.
+// The module ties is public for the crates above only.
 ghost use mathlib.Core.Path.{_≡_};
 ghost use mathlib.Core.List.{List};
 ghost use Prim.Native.Nat.{ℕ};
@@ -8,7 +8,6 @@ ghost use Rattle.shifts.specs.Shifts.{padded};
 ghost use Rattle.plan.specs.Plans as plans;
 ghost use Rattle.plan.specs.Plans.{numberOf, verdictOf, planOf, straightOf, powersOf, rulerOf, messageCountOf};
 
-pub mod places;
 pub mod ties;
 
 // The shifts past the first n influence nothing. C's layout: the C entry points take it by value.

@@ -3,9 +3,9 @@
 ghost use mathlib.Core.Path.{_≡_};
 ghost use Prim.Native.Nat.{_+_, _*_, _/_, _%_, _<_, _≤_};
 ghost use Rattle.bounds.specs.Bounds.{maxT, maxPlaces};
 ghost use Rattle.plan.specs.Layout.{placeOf, topRow, bottomRow};
-use crate::Place;
-use crate::Row;
+use plan::Place;
+use plan::Row;
 
 pub fn place_of(t: usize, j: usize, k: usize) -> Place
     requires { ⌜ j * t + k < maxPlaces ⌝ }

@@ -1,9 +1,9 @@
 -- `places::place_of` meets its contract. Assumes nothing.
 use Rattle.plan.specs.Layout.{placeOf}
 use borrow.Author.Needs.{needs}
 use mathlib.Core.Path.{refl}
-use Rattle.plan.proofs.places.place_of.Statement.{statement}
-use Rattle.plan.proofs.places.place_of.Tie as tie
+use Rattle.places.proofs.place_of.Statement.{statement}
+use Rattle.places.proofs.place_of.Tie as tie
 
 mul-t4 : tie.Need-mul-t4
 mul-t4 c = search needs

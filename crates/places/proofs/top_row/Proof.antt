@@ -1,9 +1,9 @@
 -- `places::top_row` meets its contract. Assumes nothing.
 use Rattle.plan.specs.Layout.{topRow}
 use borrow.Author.Needs.{needs}
 use mathlib.Core.Path.{refl}
-use Rattle.plan.proofs.places.top_row.Statement.{statement}
-use Rattle.plan.proofs.places.top_row.Tie as tie
+use Rattle.places.proofs.top_row.Statement.{statement}
+use Rattle.places.proofs.top_row.Tie as tie
 
 cast-t2 : tie.Need-cast-t2
 cast-t2 c = search needs

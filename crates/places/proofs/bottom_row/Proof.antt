@@ -1,9 +1,9 @@
 -- `places::bottom_row` meets its contract: k + t - p is the remainder, or t more. Assumes nothing.
 use Rattle.plan.specs.PlanLaws.{bottomRow-wraps, bottomRow-plain}
 use borrow.Author.Needs.{needs}
 use native.Mathlib.Omega.{arith}
-use Rattle.plan.proofs.places.bottom_row.Statement.{statement}
-use Rattle.plan.proofs.places.bottom_row.Tie as tie
+use Rattle.places.proofs.bottom_row.Statement.{statement}
+use Rattle.places.proofs.bottom_row.Tie as tie
 
 sub-turned : tie.Need-sub-turned
 sub-turned c = search needs
