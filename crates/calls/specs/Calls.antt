@@ -1,17 +1,16 @@
 -- What refuses a call (01, "What is turned away"): one definition for every entry, with the number of each refusal; and the number of marked places.
 use mathlib.Core.Bool.{Bool, true, cond, _&&_}
 use mathlib.Core.List.{List}
-use Prim.Native.Nat.{ℕ, _-_, _*_}
+use Prim.Native.Nat.{ℕ, _*_}
 use lib.Dec.{eqb}
-use lib.Count.{ones}
-use lib.ListN.{length, getD}
-use Rattle.math.specs.Members.{upTo}
-use Rattle.math.specs.Sums.{sumOver}
+use lib.ListN.{length}
 use Rattle.plan.specs.Layout.{Layout, messageCount}
 use Rattle.plan.specs.Plans.{layoutOf, verdictOf}
 use Rattle.plan.specs.declared.Plan.{Plan}
 use Rattle.plan.specs.declared.Verdict.the-variants as verdict
-use Rattle.code.specs.Marks.{markBytes, markCount, erasures}
+use Rattle.code.specs.Marks.{markBytes, erasures}
+-- passed on: it is part of what refuses a call
+unfoldable pub use Rattle.bits.specs.Bits.{noneFrom}
 use Rattle.calls.specs.declared.Part.{Part}
 use Rattle.calls.specs.declared.Part.the-variants.{Unlent, Of}
 use Rattle.calls.specs.declared.Lent.{Lent}
@@ -32,10 +31,6 @@ unfoldable pub lengthsFit : Layout → Lent → Bool
 lengthsFit L lent =
     partFits (lent .block) (L .n * L .t) && partFits (lent .marks) (markBytes L) && partFits (lent .witness) (2 * L .t)
     && partFits (lent .message) (messageCount L)
-
--- no bit of the marks is 1 from place a on
-unfoldable pub noneFrom : List ℕ → ℕ → Bool
-noneFrom m a = eqb (markCount m a (8 * length m - a)) 0
 
 -- no spare bit of the marks is 1: none from place n × t on
 unfoldable pub spareClear : Layout → List ℕ → Bool
@@ -73,7 +68,3 @@ countedOf p m = countOf (checkOf p (countLent m) m) (length (erasures (layoutOf 
 abbrev pub countedNumber : Counted → ℕ
 countedNumber (counted.Marks z) = 0
 countedNumber (counted.Refused x) = refusalNumber x
-
--- the number of ones in the first k mark bytes
-unfoldable pub onesOf : List ℕ → ℕ → ℕ
-onesOf m k = sumOver (upTo k) (λ i. ones (getD m i 0))

@@ -21,8 +21,9 @@ use Rattle.plan.specs.declared.Verdict.the-variants as verdict
 use Rattle.plan.specs.declared.Count.the-variants.{Is, Not}
 use Rattle.code.specs.Marks.{markBytes, NoSpare}
 use Rattle.code.specs.Laws.MarksLaws.{erasure-total}
-use Rattle.calls.specs.Calls.{partFits, lengthsFit, spareClear, checkOf, countLent, countOf, countedOf, onesOf}
-use Rattle.calls.specs.ByteLaws.{none-marked}
+use Rattle.bits.specs.Bits.{onesOf}
+use Rattle.bits.specs.ByteLaws.{none-marked}
+use Rattle.calls.specs.Calls.{partFits, lengthsFit, spareClear, checkOf, countLent, countOf, countedOf}
 use Rattle.calls.specs.declared.Part.{Part}
 use Rattle.calls.specs.declared.Part.the-variants.{Of}
 use Rattle.calls.specs.declared.Lent.{Lent}

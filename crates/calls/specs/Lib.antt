@@ -1,4 +1,3 @@
 -- What refuses a call, and the count of marks.
 pub mod Calls
-pub mod ByteLaws
 pub mod CallsLaws

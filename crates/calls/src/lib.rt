@@ -1,14 +1,12 @@
-// What refuses a call: one test for every entry. And the number of marked places, counted from the bits.
+// What refuses a call: one test for every entry. And the number of marked places, counted from the bits (the crate bits).
 // Entries: Refusal::number, check_call, erasure_count, Counted::number.
 ghost use mathlib.Core.Path.{_≡_};
-ghost use Prim.Native.Nat.{_*_, _≤_};
-ghost use lib.Count.{ones};
-ghost use lib.ListN.{length};
-ghost use Rattle.bounds.specs.Bounds.{maxPlaces};
 ghost use Rattle.plan.specs.Layout.{messageCount};
 ghost use Rattle.plan.specs.Plans.{layoutOf, verdictOf};
 ghost use Rattle.plan.specs.declared.Verdict.the-variants as verdict;
-ghost use Rattle.calls.specs.Calls.{partFits, lengthsFit, noneFrom, checkOf, refusalNumber, onesOf, countedOf, countedNumber};
+ghost use Rattle.calls.specs.Calls.{partFits, lengthsFit, checkOf, refusalNumber, countedOf, countedNumber};
+use bits::count_ones;
+use bits::none_from;
 use plan::Count;
 use plan::Plan;
 use plan::Verdict;
@@ -141,34 +139,6 @@ fn message_fits(plan: Plan, part: Part) -> bool
     }
 }
 
-// Whether no bit is 1 from place a on.
-fn none_from(marks: &[u8], a: usize) -> bool
-    ensures { λ r. ⌜ r ≡ noneFrom (now (marks .entry)) a ⌝ }
-{
-    let i = a / 8;
-    if marks.len() <= i {
-        return true;
-    }
-    if marks[i] >> (a % 8) != 0 {
-        return false;
-    }
-    bytes_clear(marks, i + 1)
-}
-
-// Whether no bit is 1 from byte k on.
-fn bytes_clear(marks: &[u8], k: usize) -> bool
-    ensures { λ r. ⌜ r ≡ noneFrom (now (marks .entry)) (8 * k) ⌝ }
-{
-    let mut i = k;
-    while i < marks.len() {
-        if marks[i] != 0 {
-            return false;
-        }
-        i += 1;
-    }
-    true
-}
-
 // The number of marked places, or the refusal.
 pub fn erasure_count(plan: Plan, marks: &[u8]) -> Counted
     ensures { λ r. ⌜ r ≡ countedOf plan (now (marks .entry)) ⌝ }
@@ -183,24 +153,4 @@ pub fn erasure_count(plan: Plan, marks: &[u8]) -> Counted
         Check::Pass => Counted::Marks(count_ones(marks)),
         Check::Stop(x) => Counted::Refused(x),
     }
-}
-
-// The ones of all bytes. A plan's marks are few enough that the sum fits.
-fn count_ones(marks: &[u8]) -> usize
-    requires { ⌜ 8 * length (now marks) ≤ maxPlaces ⌝ }
-    ensures { λ r. ⌜ r ≡ onesOf (now (marks .entry)) (length (now (marks .entry))) ⌝ }
-{
-    let mut sum: usize = 0;
-    let mut i = 0;
-    while i < marks.len() {
-        sum += ones_of(marks[i]);
-        i += 1;
-    }
-    sum
-}
-
-fn ones_of(x: u8) -> usize
-    ensures { λ r. ⌜ r ≡ ones x ⌝ }
-{
-    u8::count_ones(x) as usize
 }

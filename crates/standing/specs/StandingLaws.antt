@@ -17,7 +17,7 @@ use Rattle.plan.specs.declared.Verdict.the-variants.{Good, Size, Shift, Family}
 use Rattle.code.specs.Marks.{markBytes, NoSpare}
 use Rattle.code.specs.Laws.MarksLaws.{markCount-zero}
 use Rattle.calls.specs.Calls.{noneFrom}
-use Rattle.calls.specs.ByteLaws.{none-past, none-clear, none-set, none-marked}
+use Rattle.bits.specs.ByteLaws.{none-past, none-clear, none-set, none-marked}
 use Rattle.calls.specs.declared.Refusal.the-variants as refusal
 use Rattle.calls.specs.declared.Check.{Check}
 use Rattle.calls.specs.declared.Check.the-variants as check

@@ -1,9 +1,9 @@
 -- `ones_of` meets its contract. Assumes nothing.
-use Rattle.calls.specs.ByteLaws.{byte-ones}
+use Rattle.bits.specs.ByteLaws.{byte-ones}
 use borrow.Author.Needs.{needs}
 use native.Mathlib.Omega.{arith}
-use Rattle.calls.proofs.ones_of.Statement.{statement}
-use Rattle.calls.proofs.ones_of.Tie as tie
+use Rattle.bits.proofs.ones_of.Statement.{statement}
+use Rattle.bits.proofs.ones_of.Tie as tie
 
 cast-result : tie.Need-cast-result
 cast-result c = omega (arith, byte-ones {x = c .args .x} (omega arith))

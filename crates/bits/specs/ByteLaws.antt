@@ -21,7 +21,7 @@ use Rattle.math.specs.SumsLaws.{sumOver-append}
 use Rattle.code.specs.Codewords.{bitOf}
 use Rattle.code.specs.Marks.{mark, markCount}
 use Rattle.code.specs.Laws.MarksLaws.{mark-at, markCount-none, markCount-one, markCount-split, markCount-suc}
-use Rattle.calls.specs.Calls.{noneFrom, onesOf}
+use Rattle.bits.specs.Bits.{noneFrom, onesOf}
 
 ones-zero : ones 0 ≡ 0
 unfolding ones onesIn

@@ -1,10 +1,10 @@
 -- `none_from` meets its contract: the rest of the first byte decides, or the bytes after it. Assumes nothing.
-use Rattle.calls.specs.ByteLaws.{none-past, none-clear, none-set}
+use Rattle.bits.specs.ByteLaws.{none-past, none-clear, none-set}
 use mathlib.Core.Path.{sym, _∙_}
 use native.Mathlib.Omega.{arith}
 use borrow.Author.Needs.{needs}
-use Rattle.calls.proofs.none_from.Statement.{statement}
-use Rattle.calls.proofs.none_from.Tie as tie
+use Rattle.bits.proofs.none_from.Statement.{statement}
+use Rattle.bits.proofs.none_from.Tie as tie
 
 returns : tie.Need-returns
 returns c = sym (none-past _ _ (omega arith))

@@ -1,13 +1,13 @@
 -- `count_ones` meets its contract. The loop's sum is that of the bytes passed, at most 8 for each. Assumes nothing.
 use Prim.Native.Nat.{_-_, _*_, _≤_}
-use Rattle.calls.specs.Calls.{onesOf}
-use Rattle.calls.specs.ByteLaws.{byte-ones, onesOf-none, onesOf-more}
+use Rattle.bits.specs.Bits.{onesOf}
+use Rattle.bits.specs.ByteLaws.{byte-ones, onesOf-none, onesOf-more}
 use borrow.Author.Needs.{needs}
 use lib.ListN.{length}
 use mathlib.Core.Path.{_≡_, sym, _∙_, ap}
 use native.Mathlib.Omega.{arith}
-use Rattle.calls.proofs.count_ones.Statement.{statement}
-use Rattle.calls.proofs.count_ones.Tie as tie
+use Rattle.bits.proofs.count_ones.Statement.{statement}
+use Rattle.bits.proofs.count_ones.Tie as tie
 
 abbrev Inv-loop : tie.InvT-loop
 Inv-loop marks sum₀ i₀ sum i = (i ≤ length marks) × (sum ≤ 8 * i) × (sum ≡ onesOf marks i)

@@ -1,13 +1,13 @@
 -- `bytes_clear` meets its contract. The loop keeps the answer from byte i on; a byte that is not 0 decides. Assumes nothing.
 use Prim.Native.Nat.{_-_, _*_}
-use Rattle.calls.specs.Calls.{noneFrom}
-use Rattle.calls.specs.ByteLaws.{none-past, byte-clear, byte-set}
+use Rattle.bits.specs.Bits.{noneFrom}
+use Rattle.bits.specs.ByteLaws.{none-past, byte-clear, byte-set}
 use borrow.Author.Needs.{needs}
 use lib.ListN.{length}
 use mathlib.Core.Path.{_≡_, refl, sym, _∙_}
 use native.Mathlib.Omega.{arith}
-use Rattle.calls.proofs.bytes_clear.Statement.{statement}
-use Rattle.calls.proofs.bytes_clear.Tie as tie
+use Rattle.bits.proofs.bytes_clear.Statement.{statement}
+use Rattle.bits.proofs.bytes_clear.Tie as tie
 
 abbrev Inv-loop : tie.InvT-loop
 Inv-loop marks k i₀ i = noneFrom marks (8 * i) ≡ noneFrom marks (8 * k)

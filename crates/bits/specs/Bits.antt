@@ -1,0 +1,18 @@
+-- Marks by bytes: that none is set from a place on, and the ones of the first bytes.
+use mathlib.Core.Bool.{Bool}
+use mathlib.Core.List.{List}
+use Prim.Native.Nat.{ℕ, _-_, _*_}
+use lib.Dec.{eqb}
+use lib.Count.{ones}
+use lib.ListN.{length, getD}
+use Rattle.math.specs.Members.{upTo}
+use Rattle.math.specs.Sums.{sumOver}
+use Rattle.code.specs.Marks.{markCount}
+
+-- no bit of the marks is 1 from place a on
+unfoldable pub noneFrom : List ℕ → ℕ → Bool
+noneFrom m a = eqb (markCount m a (8 * length m - a)) 0
+
+-- the number of ones in the first k mark bytes
+unfoldable pub onesOf : List ℕ → ℕ → ℕ
+onesOf m k = sumOver (upTo k) (λ i. ones (getD m i 0))
