@@ -1,4 +1,4 @@
-// Commands on the whole block: 06, 07, 09.
+// Commands on the whole block: 07 and 09, and the laws of 06, which is the crate recovering.
 ghost use mathlib.Core.Path.{_≡_};
 ghost use mathlib.Core.Bool.{true};
 ghost use mathlib.Core.List.{List, map};
@@ -6,31 +6,20 @@ ghost use Prim.Native.Nat.{ℕ, _*_};
 ghost use lib.ListN.{length, take};
 ghost use Rattle.plan.specs.Layout.{messageCount};
 ghost use Rattle.plan.specs.Plans.{layoutOf, verdictOf};
-ghost use Rattle.plan.specs.declared.Plan.{Plan as PlanT};
 ghost use Rattle.plan.specs.declared.Verdict.the-variants as verdict;
 ghost use Rattle.code.specs.Codewords.{at};
-ghost use Rattle.code.specs.Marks.{markBytes, NoSpare, erasures};
 ghost use Rattle.code.specs.Messages.{Carries};
 ghost use Rattle.code.specs.Laws.ParityCount.{messages};
 ghost use Rattle.lines.specs.Lines.{lineLength, Wrote};
 ghost use Rattle.commands.specs.declared.Command.the-variants as commands;
-ghost use Rattle.state.specs.Refusals.{refusalOf};
-ghost use Rattle.act.specs.Acts.{stateOf, Kept, Acts};
-ghost use Rattle.blocks.specs.Wholes.{Whole, Recovered};
+ghost use Rattle.act.specs.Acts.{Kept, Acts};
 use act::Held;
-use calls::Counted;
-use calls::erasure_count;
 use figures::Answer;
 use figures::figures;
-use lines::crossed_line;
 use lines::figures_line;
-use lines::loose_line;
-use lines::recovered_line;
 use lines::sealed_line;
 use plan::Count;
 use plan::Plan;
-use promises::Recovery;
-use recovery::recover;
 use runs::gather;
 use runs::runs;
 use sealing::encode;
@@ -88,56 +77,4 @@ pub fn seal_state(held: Held, block: &mut [u8], marks: &mut [u8], line: &mut [u8
     reseal(plan, count, &mut block[..places]);
     clear(&mut marks[..bytes]);
     sealed_line(line, count)
-}
-
-// The number of marked places.
-fn marked(plan: Plan, marks: &[u8]) -> usize
-    requires { ⌜ (verdictOf plan ≡ verdict.Good) × (length (now marks) ≡ markBytes (layoutOf plan)) × NoSpare (layoutOf plan) (now marks) ⌝ }
-    ensures { λ r. ⌜ r ≡ length (erasures (layoutOf plan) (now (marks .entry))) ⌝ }
-{
-    match erasure_count(plan, marks) {
-        Counted::Marks(k) => k,
-        Counted::Refused(_) => 0,
-    }
-}
-
-// Recovery on buffers of the plan's lengths.
-fn recover_whole(
-    plan: Plan,
-    block: &mut [u8],
-    marks: &mut [u8],
-    line: &mut [u8],
-    witness: &mut [u16],
-) -> usize
-    requires { ⌜ Whole plan (now block) (now marks) × (length (now line) ≡ lineLength) × (length (now witness) ≡ 2 * plan .t) ⌝ }
-    ensures { λ r. ⌜ Recovered plan (now (block .entry)) (now (marks .entry)) (take r (now (line .exit))) (now (block .exit)) (now (marks .exit)) × Wrote (now (line .entry)) (take r (now (line .exit))) (now (line .exit)) r ⌝ }
-{
-    let count = marked(plan, &marks[..]);
-    match recover(plan, &mut block[..], &marks[..], &mut witness[..]) {
-        Recovery::Recovered => {
-            clear(&mut marks[..]);
-            recovered_line(line, count)
-        }
-        Recovery::Crossed(z) => crossed_line(line, z, &witness[..]),
-        Recovery::Loose(z) => loose_line(line, z, &witness[..]),
-        Recovery::Refused(_) => 0,
-    }
-}
-
-pub fn recover_state(held: Held, block: &mut [u8], marks: &mut [u8], line: &mut [u8]) -> usize
-    requires { ⌜ Kept held (now block) (now marks) × (length (now line) ≡ lineLength) × (held .planned ≡ true) ⌝ }
-    ensures { λ r. ⌜ Acts commands.Recover held (now (block .entry)) (now (marks .entry)) (take r (now (line .exit))) held (now (block .exit)) (now (marks .exit)) × Wrote (now (line .entry)) (take r (now (line .exit))) (now (line .exit)) r ⌝ }
-{
-    let plan = held.plan;
-    let places = plan.n * plan.t;
-    let bytes = (places + 7) / 8;
-    let mut witness = [0u16; 4096];
-    let rows = 2 * plan.t;
-    recover_whole(
-        plan,
-        &mut block[..places],
-        &mut marks[..bytes],
-        line,
-        &mut witness[..rows],
-    )
 }

@@ -49,7 +49,7 @@ pub fn dispatch(
         }
         Command::Recover => Done {
             held,
-            count: blocks::recover_state(held, block, marks, line),
+            count: recovering::recover_state(held, block, marks, line),
         },
         Command::Seal => Done {
             held,

@@ -3,12 +3,12 @@ use mathlib.Core.Path.{_≡_, refl, sym, _∙_}
 use native.Mathlib.Omega.{arith}
 use Prim.Native.Nat.{_*_, _≤_}
 use Rattle.plan.specs.PlanLaws.{good-bounds}
 use Rattle.blocks.specs.Fronts.{zeros-long}
 use Rattle.act.specs.StateLaws.{places-most, places-fit, bytes-fit, front-long}
 use Rattle.blocks.specs.BlockLaws.{lent-whole, recovered-acts}
 use borrow.Author.Needs.{needs}
-use Rattle.blocks.proofs.recover_state.Statement.{statement}
-use Rattle.blocks.proofs.recover_state.Tie as tie
+use Rattle.recovering.proofs.recover_state.Statement.{statement}
+use Rattle.recovering.proofs.recover_state.Tie as tie
 
 mul-places : tie.Need-mul-places
 mul-places c = let p = c .before .before .before .before .before .pre in omega (arith, places-most _ (p .0 .good (p .2)))

@@ -1,11 +1,11 @@
 -- Each answer of recover writes its line.
 use mathlib.Core.Path.{_≡_, refl, sym, _∙_}
 use native.Mathlib.Omega.{arith}
 use Rattle.blocks.specs.RecoverLaws.{loose-within, crossed-within, on-recovered, on-loose, on-crossed, on-refused}
 use Rattle.lines.specs.LinesLaws.{wrote-front}
 use borrow.Author.Needs.{needs}
-use Rattle.blocks.proofs.recover_whole.Statement.{statement}
-use Rattle.blocks.proofs.recover_whole.Tie as tie
+use Rattle.recovering.proofs.recover_whole.Statement.{statement}
+use Rattle.recovering.proofs.recover_whole.Tie as tie
 
 marked-requires : tie.Need-marked-requires
 marked-requires c κs = let a = c .before .before .before .before .before .pre .0 in (a .good, a .marks-long, a .spare)

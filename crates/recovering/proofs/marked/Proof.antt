@@ -1,8 +1,8 @@
 -- The count passes.
 use Rattle.blocks.specs.RecoverLaws.{marked-is, marked-never}
 use borrow.Author.Needs.{needs}
-use Rattle.blocks.proofs.marked.Statement.{statement}
-use Rattle.blocks.proofs.marked.Tie as tie
+use Rattle.recovering.proofs.marked.Statement.{statement}
+use Rattle.recovering.proofs.marked.Tie as tie
 
 erasure-count-requires : tie.Need-erasure-count-requires
 erasure-count-requires c κs = search needs
