@@ -31,7 +31,11 @@ pub(crate) const FAMILY: usize = 13;
 
 pub(crate) const UNSEALED: usize = 14;
 
-pub(crate) const MISMATCH: usize = 15;
+pub(crate) const ENDED: usize = 15;
+
+pub(crate) const WAITING: usize = 16;
+
+pub(crate) const MISMATCH: usize = 17;
 
 // The outcome of a refusal's number; of any other number a mismatch.
 pub(crate) fn refusal(number: usize) -> usize {
@@ -54,7 +58,7 @@ pub(crate) fn judged(same: bool, outcome: usize) -> usize {
     MISMATCH
 }
 
-pub(crate) type Tally = [u64; 16];
+pub(crate) type Tally = [u64; 18];
 
 pub(crate) fn note(tally: &mut Tally, outcome: usize) {
     let i = least(outcome, MISMATCH);
@@ -62,7 +66,7 @@ pub(crate) fn note(tally: &mut Tally, outcome: usize) {
 }
 
 pub(crate) fn count(tally: &Tally, k: usize) -> u64 {
-    if k < 16 {
+    if k < 18 {
         return tally[k];
     }
     0

@@ -6,6 +6,7 @@ use crate::buffers::same16;
 use crate::numbers::plus;
 use crate::second::rows::shift;
 use crate::tally::CROSSED;
+use crate::tally::ENDED;
 use crate::tally::FAMILY;
 use crate::tally::FIGURES;
 use crate::tally::LOOSE;
@@ -20,6 +21,7 @@ use crate::tally::Tally;
 use crate::tally::judged;
 use crate::tally::note;
 use crate::tries::given;
+use crate::tries::jobs;
 use crate::tries::lent;
 use crate::tries::lent::Lens;
 use crate::tries::plans;
@@ -199,11 +201,12 @@ fn job_case(i: usize) -> usize {
     match i {
         0 => job_loose(),
         1 => job_recovered(),
-        _ => job_crossed(),
+        2 => job_crossed(),
+        _ => must(jobs::out_of_bytes(true, 0), ENDED),
     }
 }
 
-// The cases by number: 18 of sizes, 4 of families, 3 of the job, 18 of the plans of 32,768 places, then 5 for each ruler
+// The cases by number: 18 of sizes, 4 of families, 4 of jobs, 18 of the plans of 32,768 places, then 5 for each ruler
 // from n 3 on.
 fn case(i: usize) -> usize {
     if i < 18 {
@@ -212,21 +215,21 @@ fn case(i: usize) -> usize {
     if i < 22 {
         return family_case(i - 18);
     }
-    if i < 25 {
+    if i < 26 {
         return job_case(i - 22);
     }
-    if i < 34 {
-        return full_case(given::plan_of(16, 2048, 2, 0), i - 25);
+    if i < 35 {
+        return full_case(given::plan_of(16, 2048, 2, 0), i - 26);
     }
-    if i < 43 {
-        return full_case(given::plan_of(32, 1024, 2, 0), i - 34);
+    if i < 44 {
+        return full_case(given::plan_of(32, 1024, 2, 0), i - 35);
     }
-    ruler_case(plus(3, (i - 43) / 5), (i - 43) % 5)
+    ruler_case(plus(3, (i - 44) / 5), (i - 44) % 5)
 }
 
 pub(crate) fn all(tally: &mut Tally) {
     let mut i: usize = 0;
-    while i < 103 {
+    while i < 104 {
         note(&mut *tally, case(i));
         i += 1;
     }

@@ -9,6 +9,7 @@ use crate::random::seeded;
 use crate::tally::Tally;
 use crate::tally::note;
 use crate::tries::given;
+use crate::tries::jobs;
 use crate::tries::lent;
 use crate::tries::lent::Lens;
 use crate::tries::plans;
@@ -129,7 +130,8 @@ fn one(kind: usize, most_n: usize, most_t: usize, seed: u64) -> usize {
         4 => plans::figures(plan),
         5 => faulty(plan, seed),
         6 => making(plan, seed),
-        _ => family(seed),
+        7 => family(seed),
+        _ => jobs::out_of_bytes(pick(seed, 36, 2) == 0, seed),
     }
 }
 
@@ -162,8 +164,8 @@ fn row(kind: usize, most_n: usize, most_t: usize, count: u64) -> Cases {
     }
 }
 
-// Kinds: 0 recovery, 1 count, 2 encoding, 3 reading, 4 figures, 5 faults, 6 plans, 7 families. Small plans, refusals and
-// larger plans.
+// Kinds: 0 recovery, 1 count, 2 encoding, 3 reading, 4 figures, 5 faults, 6 plans, 7 families, 8 jobs out of bytes. Small plans,
+// refusals and larger plans.
 fn listed(i: usize) -> Cases {
     match i {
         0 => row(0, 5, 6, 3000),
@@ -178,13 +180,14 @@ fn listed(i: usize) -> Cases {
         9 => row(0, 32, 300, 60),
         10 => row(2, 16, 100, 100),
         11 => row(3, 16, 100, 100),
-        _ => row(4, 12, 60, 300),
+        12 => row(4, 12, 60, 300),
+        _ => row(8, 0, 0, 600),
     }
 }
 
 pub(crate) fn all(tally: &mut Tally) {
     let mut i: usize = 0;
-    while i < 13 {
+    while i < 14 {
         let next = listed(i);
         many(next.kind, next.most_n, next.most_t, next.count, &mut *tally);
         i += 1;
