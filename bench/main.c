@@ -285,14 +285,6 @@ static void measure(timing *m) {
         }
 }
 
-/* The same further down the stack. Where its tables lie, modulo a page, beside the caller's buffers makes a call some percent slower or faster, on either side;
-   each pass has another place, so that the best is no matter of luck. */
-static void measure_lower(timing *m, size_t bytes) {
-    volatile char *room = __builtin_alloca(bytes + 1);
-    room[bytes] = 0;
-    measure(m);
-}
-
 /* Nanoseconds per call, less the copy that restores the block. */
 static double ns_of(const timing *m, int side) {
     return m->best[side] - (m->in.kind < ENCODE ? m->best[RESTORE] : 0);
@@ -481,7 +473,7 @@ int main(int argc, char **argv) {
         }
     for (int pass = 0; pass < PASSES; pass++)
         for (int i = 0; i < ALL_SIZES; i++)
-            for (int k = 0; k < KINDS; k++) measure_lower(&at[i][k], (size_t)pass * (4096 / PASSES));
+            for (int k = 0; k < KINDS; k++) measure(&at[i][k]);
     print_results(sizes);
     for (int i = 0; i < SIZES; i++) scale(&sizes[i]);
     print_goals(sizes);
