@@ -14,7 +14,7 @@
 
 enum { MAX_PLACES = 32768, MAX_PATTERNS = 64 };
 /* All cases are gone through PASSES times, so that a busy second of the machine spoils no case; each time a case has ROUNDS rounds of batches. */
-enum { PASSES = 12, ROUNDS = 5 };
+enum { PASSES = 30, ROUNDS = 5 };
 static const double BATCH_NS = 200e3;
 
 /* none to crossed_forest are calls of recover; the last two are calls of their own. */
@@ -290,23 +290,6 @@ static double ns_of(const timing *m, int side) {
     return m->best[side] - (m->in.kind < ENCODE ? m->best[RESTORE] : 0);
 }
 
-/* ---- goals ---- */
-
-static int goals, over;
-
-static void goal(const char *what, const char *name, double value, double limit) {
-    goals++;
-    if (value <= limit) return;
-    over++;
-    printf("over %s %s %.2f goal %.2f\n", what, name, value, limit);
-}
-
-/* The most that ours may take, in times of the rival. */
-static double ratio_goal(size_t t, kind k) {
-    if (t == 7) return 1.5;
-    return k == PAIR || k == FOREST ? 1.0 : 1.1;
-}
-
 /* ---- scale ---- */
 
 #ifdef HAVE_ISAL
@@ -436,18 +419,6 @@ static void print_results(const size_case *sizes) {
     }
 }
 
-static void print_goals(const size_case *sizes) {
-    for (int i = 0; i < SIZES; i++)
-        for (int k = 0; k < KINDS; k++)
-            if (expected((kind)k))
-                goal("refusal", name_of(&sizes[i], k), refusal_times(i, k), 6);
-            else
-                goal("ratio", name_of(&sizes[i], k), ratio(i, k), ratio_goal(sizes[i].plan.t, (kind)k));
-    for (int k = 0; k < KINDS; k++)
-        for (int step = 1; step < GROWTH; step++) goal("growth", name_of(&sizes[growth[step]], k), doubling(step, k), 2.2);
-    printf("goals %d over %d\n", goals, over);
-}
-
 int main(int argc, char **argv) {
     const size_case sizes[ALL_SIZES] = {
         {"n16_t2048", fumizhaki_straight(16, 2048).plan}, {"n32_t1024", fumizhaki_straight(32, 1024).plan},
@@ -476,6 +447,5 @@ int main(int argc, char **argv) {
             for (int k = 0; k < KINDS; k++) measure(&at[i][k]);
     print_results(sizes);
     for (int i = 0; i < SIZES; i++) scale(&sizes[i]);
-    print_goals(sizes);
     return 0;
 }

@@ -61,7 +61,8 @@ fn reseal(plan: Plan, count: usize, block: &mut [u8])
     let n = plan.n;
     let t = plan.t;
     let s = plan.shifts;
-    let r = runs(n, t, &s[..]);
+    let mut r = [0u16; 32];
+    runs(n, t, &s[..], &mut r[..]);
     gather(n, t, &r[..], &block[..], &mut message[..count]);
     encode(plan, &message[..count], &mut block[..]);
 }

@@ -1,4 +1,3 @@
 -- Walking a cycle by the tables of its rows, and the cycle that a closing place makes.
-pub mod Coded
 pub mod Walks
 pub mod Shows

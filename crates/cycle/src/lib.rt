@@ -8,7 +8,7 @@ use peel::peel;
 use plan::Place;
 use tables::count;
 use tables::marks::clear_bytes;
-use tables::packed::pack;
+use tables::walk::Spot;
 
 pub mod walk;
 
@@ -20,15 +20,14 @@ fn picture_from(
     marks: &[u8],
     c: Place,
     sum: &mut [u8],
-    left: &mut [u8],
-    code: &mut [u16],
+    tally: &mut [u16],
 )
     requires { ⌜ Closing n t (now shifts) (now marks) (c .0) ⌝ }
-    requires { ⌜ (length (now sum) ≡ 2 * t) × (length (now left) ≡ 2 * t) × (length (now code) ≡ 2 * t) ⌝ }
-    ensures { λ _. ⌜ Begun n t (now (shifts .entry)) (now (marks .entry)) (c .0) (now (sum .exit)) (now (left .exit)) (now (code .exit)) ⌝ }
+    requires { ⌜ (length (now sum) ≡ 2 * t) × (length (now tally) ≡ 2 * t) ⌝ }
+    ensures { λ _. ⌜ Begun n t (now (shifts .entry)) (now (marks .entry)) (c .0) (now (sum .exit)) (now (tally .exit)) ⌝ }
 {
     clear_bytes(&mut sum[..]);
-    count(n, t, shifts, marks, c, &mut left[..], &mut code[..]);
+    count(n, t, shifts, marks, c, &mut tally[..]);
 }
 
 // Peels the erasures from c on: each row that is left has two of them or none.
@@ -39,33 +38,22 @@ fn strip(
     marks: &[u8],
     c: Place,
     sum: &mut [u8],
-    left: &mut [u8],
-    code: &mut [u16],
+    tally: &mut [u16],
     queue: &mut [u16],
     place: &mut [u16],
     value: &mut [u8],
 )
     requires { ⌜ Closing n t (now shifts) (now marks) (c .0) ⌝ }
-    requires { ⌜ Room t (now sum) (now left) (now code) (now place) (now value) × (length (now queue) ≡ 2 * t) ⌝ }
-    ensures { λ _. ⌜ Stripped n t (now (shifts .entry)) (now (marks .entry)) (c .0) (now (code .exit)) ⌝ }
+    requires { ⌜ Room t (now sum) (now tally) (now place) (now value) × (length (now queue) ≡ 2 * t) ⌝ }
+    ensures { λ _. ⌜ Stripped n t (now (shifts .entry)) (now (marks .entry)) (c .0) (now (tally .exit)) ⌝ }
 {
-    picture_from(
-        n,
-        t,
-        shifts,
-        marks,
-        c,
-        &mut sum[..],
-        &mut left[..],
-        &mut code[..],
-    );
+    picture_from(n, t, shifts, marks, c, &mut sum[..], &mut tally[..]);
     peel(
         n,
         t,
         shifts,
         &mut sum[..],
-        &mut left[..],
-        &mut code[..],
+        &mut tally[..],
         &mut queue[..],
         &mut place[..],
         &mut value[..],
@@ -80,14 +68,13 @@ pub fn show(
     marks: &[u8],
     c: Place,
     sum: &mut [u8],
-    left: &mut [u8],
-    code: &mut [u16],
+    tally: &mut [u16],
     place: &mut [u16],
     value: &mut [u8],
     witness: &mut [u16],
 ) -> usize
     requires { ⌜ Closing n t (now shifts) (now marks) (c .0) ⌝ }
-    requires { ⌜ Room t (now sum) (now left) (now code) (now place) (now value) ⌝ }
+    requires { ⌜ Room t (now sum) (now tally) (now place) (now value) ⌝ }
     requires { ⌜ length (now witness) ≡ 2 * t ⌝ }
     ensures { λ r. ⌜ Showing n t (now (shifts .entry)) (now (marks .entry)) (c .0) (now (witness .exit)) r ⌝ }
 {
@@ -98,19 +85,16 @@ pub fn show(
         marks,
         c,
         &mut sum[..],
-        &mut left[..],
-        &mut code[..],
+        &mut tally[..],
         &mut witness[..],
         &mut place[..],
         &mut value[..],
     );
     let first = c.0 as usize;
-    walk(
-        n,
-        t,
-        shifts,
-        &code[..],
-        pack(first / t, first % t),
-        &mut witness[..],
-    )
+    let spot = Spot {
+        place: c,
+        section: first / t,
+        offset: first % t,
+    };
+    walk(n, t, shifts, &tally[..], spot, &mut witness[..])
 }

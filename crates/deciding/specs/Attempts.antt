@@ -18,16 +18,16 @@ use Rattle.code.specs.Places.{places}
 use Rattle.code.specs.Codewords.{at, Agrees, None}
 use Rattle.code.specs.Marks.{markBytes, erasures}
 use Rattle.code.specs.Laws.Forest.{Erased, Forest}
-use Rattle.code.specs.Laws.Basics.{places-∈, meets-row, syndrome-ext}
+use Rattle.code.specs.Laws.Basics.{places-∈, syndrome-ext}
 use Rattle.code.specs.Laws.MarksLaws.{erasures-erased}
-use Rattle.tables.specs.Picture.{Counted, Picture}
-use Rattle.tables.specs.PictureLaws.{remaining}
+use Rattle.tables.specs.Picture.{weight, Counted, Picture}
 use Rattle.tables.specs.Sizes.{sized-valid, ∈-sized}
 use Rattle.tables.specs.Counting.{fromPlace, from-zero}
 use Rattle.tables.specs.Scan.{Lent}
 use Rattle.sums.specs.SumLaws.{Syndromes}
 use Rattle.cycle.specs.Shows.{Room}
-use Rattle.tables.specs.StuckLaws.{onRow-some, length-onRow-le, stuck-none}
+use Rattle.tables.specs.Bounds.{tally-some, tally-none}
+use Rattle.tables.specs.StuckLaws.{length-onRow-le, stuck-none}
 use Rattle.peel.specs.Peels.{Peelable, Peeled, Peels}
 use Rattle.settling.specs.Fill.{filled, Fillable, filled-long, filled-out, filled-at, cleanOf, clean-zero, zero-clean}
 use Rattle.calls.specs.Calls.{checkOf}
@@ -48,38 +48,35 @@ pub record Given (n t : ℕ) (shifts block marks witness : List ℕ) : Type 0 wh
   pub witness-long : length witness ≡ 2 * t
 
 -- tables with room for an entry for each row: the sums, zeros, and any
-pub record Cut (n t : ℕ) (shifts block sum left code place value : List ℕ) : Type 0 where
+pub record Cut (n t : ℕ) (shifts block sum tally place value : List ℕ) : Type 0 where
   pub summed : Summed n t shifts block sum
-  pub left-zeros : Zeros (2 * t) left
-  pub code-zeros : Zeros (2 * t) code
+  pub tally-zeros : Zeros (2 * t) tally
   pub place-room : 2 * t ≤ length place
   pub value-room : 2 * t ≤ length value
 
 -- the same with no entry more
-pub record Tables (n t : ℕ) (shifts block sum left code place value : List ℕ) : Type 0 where
+pub record Tables (n t : ℕ) (shifts block sum tally place value : List ℕ) : Type 0 where
   pub sums : Syndromes n t shifts block sum
-  pub left-zeros : left ≡ replicate (2 * t) 0
-  pub code-zeros : code ≡ replicate (2 * t) 0
+  pub tally-zeros : tally ≡ replicate (2 * t) 0
   pub place-long : length place ≡ 2 * t
   pub value-long : length value ≡ 2 * t
 
 -- the tables picture the block with its erasures
-pub record Begun (n t : ℕ) (shifts block marks sum left code : List ℕ) : Type 0 where
+pub record Begun (n t : ℕ) (shifts block marks sum tally : List ℕ) : Type 0 where
   pub symbols : (c : ℕ) → at block c < 256
-  pub picture : Picture (layout n t shifts) (erasures (layout n t shifts) marks) (at block) sum left code
+  pub picture : Picture (layout n t shifts) (erasures (layout n t shifts) marks) (at block) sum tally
 
 -- the tables begun are peeled, the k places and values being the ones settled
-pub record Tried (n t : ℕ) (shifts block marks sum left code place value : List ℕ) (k : ℕ) : Type 0 where
+pub record Tried (n t : ℕ) (shifts block marks sum tally place value : List ℕ) (k : ℕ) : Type 0 where
   pub sum₀ : List ℕ
-  pub left₀ : List ℕ
-  pub code₀ : List ℕ
-  pub begun : Begun n t shifts block marks sum₀ left₀ code₀
-  pub peels : Peels (layout n t shifts) sum₀ left₀ code₀ sum left code place value k
+  pub tally₀ : List ℕ
+  pub begun : Begun n t shifts block marks sum₀ tally₀
+  pub peels : Peels (layout n t shifts) sum₀ tally₀ sum tally place value k
 
 -- ---- a block v with erasures E, peeled
 
-module _ (L : Layout) (ok : Valid L) (E v : List ℕ) {sum left code place value : List ℕ} {k : ℕ}
-    (er : Erased L E) (whole : length v ≡ L .n * L .t) (p : Peeled L E (at v) sum left code place value k) where
+module _ (L : Layout) (ok : Valid L) (E v : List ℕ) {sum tally place value : List ℕ} {k : ℕ}
+    (er : Erased L E) (whole : length v ≡ L .n * L .t) (p : Peeled L E (at v) sum tally place value k) where
   -- a codeword that agrees is what peeling found, wherever nothing is left
   agrees-found : (w : List ℕ) → Agrees L E v w → (c : ℕ) → c ∈ places L → ¬ (c ∈ p .F) → at w c ≡ p .x c
   agrees-found w a = p .settles .forced (at w) (a .codeword .sums) (λ c m out. a .unmarked c (places-∈ L m .0) out)
@@ -91,10 +88,10 @@ module _ (L : Layout) (ok : Valid L) (E v : List ℕ) {sum left code place value
   filled-same : (c : ℕ) → ¬ (c ∈ E) → at (filled v place value k) c ≡ at v c
   filled-same c out = filled-out v place value k (λ i h e. out (Memᴰ·cast (sym e) (p .settles .settled i h .0)))
 
-  module _ (clean : cleanOf sum left ≡ true) where
+  module _ (clean : cleanOf sum tally ≡ true) where
     none-left : (c : ℕ) → ¬ (c ∈ p .F)
-    none-left c m =
-        omega (arith, onRow-some L m (inl refl), p .picture .counted .lefts (top L c) (meets-row L ok c (inl refl)), clean-zero sum left clean (top L c) .1)
+    unfolding weight
+    none-left c m = omega (arith, tally-some L ok (p .picture .counted) m (inl refl), clean-zero sum tally clean (top L c) .1)
 
     filled-found : (c : ℕ) → at (filled v place value k) c ≡ p .x c
     filled-found c = by-cases (decIn c E)
@@ -107,7 +104,7 @@ module _ (L : Layout) (ok : Valid L) (E v : List ℕ) {sum left code place value
         whole = filled-long v place value k ∙ whole;
         symbols = λ c. rw (filled-found c) (p .picture .byte c);
         sums = λ r h. syndrome-ext L (at (filled v place value k)) (p .x) r (λ c m. filled-found c)
-            ∙ sym (p .picture .sums r h) ∙ clean-zero sum left clean r .0;
+            ∙ sym (p .picture .sums r h) ∙ clean-zero sum tally clean r .0;
       };
       unmarked = λ c h out. filled-same c out;
     }
@@ -117,31 +114,30 @@ module _ (L : Layout) (ok : Valid L) (E v : List ℕ) {sum left code place value
         (λ c h. agrees-found w a c (all c (rw (a .codeword .whole) at h)) (none-left c) ∙ sym (filled-found c))
 
   -- a forest peels whole, so an agreeing codeword would leave no sum
-  forest-none : cleanOf sum left ≡ false → Forest L E → None (Agrees L E v)
+  forest-none : cleanOf sum tally ≡ false → Forest L E → None (Agrees L E v)
   forest-none dirty f w a =
       let empty : p .F ≡ [] = stuck-none L ok (er .rising) f (p .picture .counted .erased .rising) (p .settles .fewer) (p .stuck) in
       let out : (c : ℕ) → ¬ (c ∈ p .F) = λ c m. List·Memᴰ·not-nil (rw empty at m) in
-      true≢false (sym (zero-clean sum left
+      true≢false (sym (zero-clean sum tally
       (λ r h. let s : r < 2 * L .t = omega (arith, p .picture .sum-long) in
       p .picture .sums r s ∙ syndrome-ext L (p .x) (at w) r (λ c m. sym (agrees-found w a c m (out c))) ∙ a .codeword .sums r s)
       (λ r h. let e : length (p .F) ≡ 0 = ap length empty in
-      omega (arith, p .picture .counted .lefts r (omega (arith, p .picture .counted .left-long)), length-onRow-le L (p .F) r))) ∙ dirty)
+      tally-none L ok (p .picture .counted) (omega (arith, p .picture .counted .long)) (omega (arith, length-onRow-le L (p .F) r)))) ∙ dirty)
 
 -- ---- the tables
 
 -- arrays of k zeros beside the sums
 pub cut-arrays : {n t : ℕ} {shifts block sum : List ℕ} (k : ℕ) → 2 * t ≤ k → Summed n t shifts block sum
-    → Cut n t shifts block sum (replicate k 0) (replicate k 0) (replicate k 0) (replicate k 0)
+    → Cut n t shifts block sum (replicate k 0) (replicate k 0) (replicate k 0)
 cut-arrays {t = t} k h s =
     let room : 2 * t ≤ length (replicate {A = ℕ} k 0) = omega (arith, length-replicate {A = ℕ} k 0) in
-    record { summed = s; left-zeros = zeros k h; code-zeros = zeros k h; place-room = room; value-room = room }
+    record { summed = s; tally-zeros = zeros k h; place-room = room; value-room = room }
 
-pub cut-tables : {n t : ℕ} {shifts block sum left code place value : List ℕ} → Cut n t shifts block sum left code place value
-    → Tables n t shifts block (take (2 * t) sum) (take (2 * t) left) (take (2 * t) code) (take (2 * t) place) (take (2 * t) value)
+pub cut-tables : {n t : ℕ} {shifts block sum tally place value : List ℕ} → Cut n t shifts block sum tally place value
+    → Tables n t shifts block (take (2 * t) sum) (take (2 * t) tally) (take (2 * t) place) (take (2 * t) value)
 cut-tables {t = t} {place = place} {value = value} c = record {
   sums = c .summed .sums;
-  left-zeros = zeros-part (c .left-zeros);
-  code-zeros = zeros-part (c .code-zeros);
+  tally-zeros = zeros-part (c .tally-zeros);
   place-long = length-take-le (2 * t) place (c .place-room);
   value-long = length-take-le (2 * t) value (c .value-room);
 }
@@ -149,17 +145,17 @@ cut-tables {t = t} {place = place} {value = value} c = record {
 -- ---- the attempt
 
 -- what the tables picture once the erasures are counted
-pub begins : {n t : ℕ} {shifts block marks sum left code : List ℕ} → ((c : ℕ) → at block c < 256) → Syndromes n t shifts block sum
-    → Counted (layout n t shifts) (fromPlace 0 (erasures (layout n t shifts) marks)) left code → Begun n t shifts block marks sum left code
+pub begins : {n t : ℕ} {shifts block marks sum tally : List ℕ} → ((c : ℕ) → at block c < 256) → Syndromes n t shifts block sum
+    → Counted (layout n t shifts) (fromPlace 0 (erasures (layout n t shifts) marks)) tally → Begun n t shifts block marks sum tally
 unfolding layout
 begins {n} {t} {shifts} {marks = marks} byte s p = record {
   symbols = byte;
-  picture = record { sum-long = s .long; byte = byte; sums = s .each; counted = remaining (rw (from-zero (erasures (layout n t shifts) marks)) at p) };
+  picture = record { sum-long = s .long; byte = byte; sums = s .each; counted = rw (from-zero (erasures (layout n t shifts) marks)) at p };
 }
 
-module _ {n t : ℕ} {shifts block marks witness sum left code place value left₀ code₀ : List ℕ} (g : Given n t shifts block marks witness)
-    (b : Tables n t shifts block sum left₀ code₀ place value) (s : Begun n t shifts block marks sum left code) where
-  pub attempt-peels : Peelable n t shifts sum left code witness place value
+module _ {n t : ℕ} {shifts block marks witness sum tally place value tally₀ : List ℕ} (g : Given n t shifts block marks witness)
+    (b : Tables n t shifts block sum tally₀ place value) (s : Begun n t shifts block marks sum tally) where
+  pub attempt-peels : Peelable n t shifts sum tally witness place value
   attempt-peels = record {
     sized = g .marked .sized;
     pictured = record { E = _; u = _; picture = s .picture };
@@ -168,18 +164,18 @@ module _ {n t : ℕ} {shifts block marks witness sum left code place value left�
     value-long = b .value-long;
   }
 
-  pub attempt-tried : {sum' left' code' place' value' : List ℕ} {k : ℕ} → Peels (layout n t shifts) sum left code sum' left' code' place' value' k
-      → Tried n t shifts block marks sum' left' code' place' value' k
-  attempt-tried q = record { sum₀ = _; left₀ = _; code₀ = _; begun = s; peels = q }
+  pub attempt-tried : {sum' tally' place' value' : List ℕ} {k : ℕ} → Peels (layout n t shifts) sum tally sum' tally' place' value' k
+      → Tried n t shifts block marks sum' tally' place' value' k
+  attempt-tried q = record { sum₀ = _; tally₀ = _; begun = s; peels = q }
 
 -- the witness list has served as the queue
 pub given-after : {n t : ℕ} {shifts block marks witness witness' : List ℕ} → Given n t shifts block marks witness → length witness' ≡ length witness
     → Given n t shifts block marks witness'
 given-after g e = record { marked = g .marked; block-long = g .block-long; witness-long = e ∙ g .witness-long }
 
-module _ {n t : ℕ} {shifts block marks witness sum left code place value : List ℕ} {k : ℕ} (g : Given n t shifts block marks witness)
-    (d : Tried n t shifts block marks sum left code place value k) where
-  peeled : Peeled (layout n t shifts) (erasures (layout n t shifts) marks) (at block) sum left code place value k
+module _ {n t : ℕ} {shifts block marks witness sum tally place value : List ℕ} {k : ℕ} (g : Given n t shifts block marks witness)
+    (d : Tried n t shifts block marks sum tally place value k) where
+  peeled : Peeled (layout n t shifts) (erasures (layout n t shifts) marks) (at block) sum tally place value k
   peeled = d .peels .peeled _ _ (d .begun .picture)
 
   pub tried-fills : Fillable block place value k
@@ -190,7 +186,7 @@ module _ {n t : ℕ} {shifts block marks witness sum left code place value : Lis
     inside = settled-in (layout n t shifts) (sized-valid (g .marked .sized)) (erasures (layout n t shifts) marks) block (erasures-erased (layout n t shifts) marks) (g .block-long) peeled;
   }
 
-  pub tried-recovers : {a : Recovery} {v' w' : List ℕ} → cleanOf sum left ≡ true → v' ≡ filled block place value k
+  pub tried-recovers : {a : Recovery} {v' w' : List ℕ} → cleanOf sum tally ≡ true → v' ≡ filled block place value k
       → (a ≡ Recovered) × (w' ≡ replicate (length witness) 0)
       → Decides (layout n t shifts) (erasures (layout n t shifts) marks) block a v' w'
   unfolding layout
@@ -203,17 +199,16 @@ module _ {n t : ℕ} {shifts block marks witness sum left code place value : Lis
       (filled-only L ok E block er (g .block-long) peeled clean (λ c. ∈-sized (g .marked .sized)))
       (q .1 ∙ ap (λ i. replicate i 0) (g .witness-long)))
 
-  pub tried-room : Room t sum left code place value
+  pub tried-room : Room t sum tally place value
   unfolding layout
   tried-room = record {
     sum-long = peeled .picture .sum-long;
-    left-long = peeled .picture .counted .left-long;
-    code-long = peeled .picture .counted .code-long;
+    tally-long = peeled .picture .counted .long;
     place-long = d .peels .place-long;
     value-long = d .peels .value-long;
   }
 
-  pub tried-explains : {r : Recovery} {w' : List ℕ} → cleanOf sum left ≡ false
+  pub tried-explains : {r : Recovery} {w' : List ℕ} → cleanOf sum tally ≡ false
       → Explains (layout n t shifts) (erasures (layout n t shifts) marks) sum r w'
       → Decides (layout n t shifts) (erasures (layout n t shifts) marks) block r block w'
   unfolding layout

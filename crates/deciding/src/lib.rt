@@ -22,14 +22,13 @@ pub fn cut(
     block: &mut [u8],
     marks: &[u8],
     sum: &mut [u8],
-    left: &mut [u8],
-    code: &mut [u16],
+    tally: &mut [u16],
     place: &mut [u16],
     value: &mut [u8],
     witness: &mut [u16],
 ) -> Recovery
     requires { ⌜ Given n t (now shifts) (now block) (now marks) (now witness) ⌝ }
-    requires { ⌜ Cut n t (now shifts) (now block) (now sum) (now left) (now code) (now place) (now value) ⌝ }
+    requires { ⌜ Cut n t (now shifts) (now block) (now sum) (now tally) (now place) (now value) ⌝ }
     ensures { λ r. ⌜ Decides (layout n t (now (shifts .entry))) (erasures (layout n t (now (shifts .entry))) (now (marks .entry))) (now (block .entry)) r (now (block .exit)) (now (witness .exit)) ⌝ }
 {
     let rows = 2 * t;
@@ -40,8 +39,7 @@ pub fn cut(
         block,
         marks,
         &mut sum[..rows],
-        &mut left[..rows],
-        &mut code[..rows],
+        &mut tally[..rows],
         &mut place[..rows],
         &mut value[..rows],
         witness,
@@ -57,29 +55,27 @@ fn attempt(
     block: &mut [u8],
     marks: &[u8],
     sum: &mut [u8],
-    left: &mut [u8],
-    code: &mut [u16],
+    tally: &mut [u16],
     place: &mut [u16],
     value: &mut [u8],
     witness: &mut [u16],
 ) -> Recovery
     requires { ⌜ Given n t (now shifts) (now block) (now marks) (now witness) ⌝ }
-    requires { ⌜ Tables n t (now shifts) (now block) (now sum) (now left) (now code) (now place) (now value) ⌝ }
+    requires { ⌜ Tables n t (now shifts) (now block) (now sum) (now tally) (now place) (now value) ⌝ }
     ensures { λ r. ⌜ Decides (layout n t (now (shifts .entry))) (erasures (layout n t (now (shifts .entry))) (now (marks .entry))) (now (block .entry)) r (now (block .exit)) (now (witness .exit)) ⌝ }
 {
-    note_marks(n, t, shifts, marks, Place(0), &mut left[..], &mut code[..]);
+    note_marks(n, t, shifts, marks, Place(0), &mut tally[..]);
     let k = peel(
         n,
         t,
         shifts,
         &mut sum[..],
-        &mut left[..],
-        &mut code[..],
+        &mut tally[..],
         &mut witness[..],
         &mut place[..],
         &mut value[..],
     );
-    let whole = clean(&sum[..], &left[..]);
+    let whole = clean(&sum[..], &tally[..]);
     finish(
         n,
         t,
@@ -87,8 +83,7 @@ fn attempt(
         block,
         marks,
         sum,
-        left,
-        code,
+        tally,
         place,
         value,
         k,
@@ -106,8 +101,7 @@ fn finish(
     block: &mut [u8],
     marks: &[u8],
     sum: &mut [u8],
-    left: &mut [u8],
-    code: &mut [u16],
+    tally: &mut [u16],
     place: &mut [u16],
     value: &mut [u8],
     k: usize,
@@ -115,7 +109,7 @@ fn finish(
     witness: &mut [u16],
 ) -> Recovery
     requires { ⌜ Given n t (now shifts) (now block) (now marks) (now witness) ⌝ }
-    requires { ⌜ Tried n t (now shifts) (now block) (now marks) (now sum) (now left) (now code) (now place) (now value) k × (whole ≡ cleanOf (now sum) (now left)) ⌝ }
+    requires { ⌜ Tried n t (now shifts) (now block) (now marks) (now sum) (now tally) (now place) (now value) k × (whole ≡ cleanOf (now sum) (now tally)) ⌝ }
     ensures { λ r. ⌜ Decides (layout n t (now (shifts .entry))) (erasures (layout n t (now (shifts .entry))) (now (marks .entry))) (now (block .entry)) r (now (block .exit)) (now (witness .exit)) ⌝ }
 {
     if whole {
@@ -127,8 +121,7 @@ fn finish(
         shifts,
         marks,
         sum,
-        left,
-        code,
+        tally,
         place,
         value,
         &mut witness[..],

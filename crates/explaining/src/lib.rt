@@ -24,14 +24,13 @@ pub fn explain(
     shifts: &[u16],
     marks: &[u8],
     sum: &mut [u8],
-    left: &mut [u8],
-    code: &mut [u16],
+    tally: &mut [u16],
     place: &mut [u16],
     value: &mut [u8],
     witness: &mut [u16],
 ) -> Recovery
     requires { ⌜ Lent n t (now shifts) (now marks) ⌝ }
-    requires { ⌜ Room t (now sum) (now left) (now code) (now place) (now value) × (length (now witness) ≡ 2 * t) ⌝ }
+    requires { ⌜ Room t (now sum) (now tally) (now place) (now value) × (length (now witness) ≡ 2 * t) ⌝ }
     ensures { λ r. ⌜ Explains (layout n t (now (shifts .entry))) (erasures (layout n t (now (shifts .entry))) (now (marks .entry))) (now (sum .entry)) r (now (witness .exit)) ⌝ }
 {
     let closing = labels(n, t, shifts, marks, &mut place[..]);
@@ -44,8 +43,7 @@ pub fn explain(
             marks,
             closing,
             sum,
-            left,
-            code,
+            tally,
             place,
             value,
             witness,
@@ -61,31 +59,18 @@ fn loose(
     marks: &[u8],
     closing: Closing,
     sum: &mut [u8],
-    left: &mut [u8],
-    code: &mut [u16],
+    tally: &mut [u16],
     place: &mut [u16],
     value: &mut [u8],
     witness: &mut [u16],
 ) -> Recovery
     requires { ⌜ Lent n t (now shifts) (now marks) ⌝ }
     requires { ⌜ Closed (layout n t (now shifts)) (erasures (layout n t (now shifts)) (now marks)) (erasures (layout n t (now shifts)) (now marks)) closing ⌝ }
-    requires { ⌜ Room t (now sum) (now left) (now code) (now place) (now value) × (length (now witness) ≡ 2 * t) ⌝ }
+    requires { ⌜ Room t (now sum) (now tally) (now place) (now value) × (length (now witness) ≡ 2 * t) ⌝ }
     ensures { λ r. ⌜ Loosens (layout n t (now (shifts .entry))) (erasures (layout n t (now (shifts .entry))) (now (marks .entry))) r (now (witness .exit)) ⌝ }
 {
     let Closing::At(c) = closing else {
         return Recovery::Loose(0);
     };
-    Recovery::Loose(show(
-        n,
-        t,
-        shifts,
-        marks,
-        c,
-        sum,
-        left,
-        code,
-        place,
-        value,
-        witness,
-    ))
+    Recovery::Loose(show(n, t, shifts, marks, c, sum, tally, place, value, witness))
 }

@@ -5,7 +5,7 @@ use mathlib.Core.Logic.{_≢_, by-cases, ⊎-elim}
 use mathlib.Core.Bool.{Bool, true, false, cond, not, true≢false, false≢true}
 use mathlib.Core.List.{List, [], _∷_, _++_, List·Memᴰ·head, List·Memᴰ·tail, Memᴰ·cast, List·Memᴰ·cases-cons, List·Memᴰ·not-nil}
 use Prim.Native.Nat.{ℕ, _+_, _*_, _^_, _/_, _%_, _<_, _≤_}
-use native.Mathlib.Nat.{zero-mod, zero-div, zero-add, zero-mul, suc-mul, add-comm, add-le-add, le-refl}
+use native.Mathlib.Nat.{zero-mod, zero-div, zero-add, add-zero, zero-mul, suc-mul, add-comm, add-le-add, le-refl}
 use native.Mathlib.Decide.{ℕ-discrete}
 use native.Mathlib.Omega.{arith}
 use borrow.Author.Tests.{eq-eqb, ne-eqb}
@@ -13,6 +13,7 @@ use lib.Dec.{eqb}
 use lib.ListN.{length}
 use lib.Pow.{pow-pos}
 use Rattle.math.specs.Members.{_∈_, keep, without, Distinct, distinct-none, distinct-more}
+use Rattle.math.specs.MembersLaws.{∈-without, without-∈, distinct-without}
 use Rattle.math.specs.Xor.{_⊕_, xor, ⊕-assoc, ⊕-zero, zero-⊕, ⊕-lt, ⊕-mod, ⊕-bit}
 use Rattle.math.specs.Sums.{xorOver, sumOver, only}
 
@@ -210,3 +211,36 @@ sumOver-le (c ∷ cs) f g h = add-le-add (h c (List·Memᴰ·head refl)) (sumOve
 -- a selection is as long as there are members that pass the test
 pub length-keep-sum : (p : ℕ → Bool) (l : List ℕ) → length (keep p l) ≡ sumOver l (λ c. only (p c) 1)
 length-keep-sum p l = let e = sumOver-const (keep p l) 1 in let k = sumOver-keep p l (λ c. 1) in omega arith
+
+-- only one member counts
+pub sumOver-one : {l : List ℕ} {a : ℕ} (f : ℕ → ℕ) → Distinct l → a ∈ l → ((c : ℕ) → c ∈ l → c ≢ a → f c ≡ 0) → sumOver l f ≡ f a
+unfolding sumOver
+sumOver-one f distinct-none m h = absurd (List·Memᴰ·not-nil m)
+sumOver-one {a = a} f (distinct-more {c = c} {cs = cs} n d) m h =
+    ⊎-elim
+    (λ (e : a ≡ c). ap₂ _+_ (ap f (sym e)) (sumOver-zero cs f (λ x mx. h x (List·Memᴰ·tail mx) (λ q. n (Memᴰ·cast (sym (q ∙ e)) mx)))) ∙ add-zero (f a))
+    (λ (ma : a ∈ cs). ap₂ _+_ (h c (List·Memᴰ·head refl) (λ q. n (Memᴰ·cast q ma))) (sumOver-one f d ma (λ x mx. h x (List·Memᴰ·tail mx))) ∙ zero-add (f a))
+    (List·Memᴰ·cases-cons m)
+
+only-parts : (b : Bool) (x : ℕ) → x ≡ only b x + only (not b) x
+unfolding only
+only-parts true x = sym (add-zero x)
+only-parts false x = sym (zero-add x)
+
+-- one member, and the others
+pub sumOver-split : {l : List ℕ} {a : ℕ} (f : ℕ → ℕ) → Distinct l → a ∈ l → sumOver l f ≡ f a + sumOver (without a l) f
+unfolding without
+sumOver-split {l} {a} f d m =
+    sumOver-ext l f (λ c. only (eqb c a) (f c) + only (not (eqb c a)) (f c)) (λ c mc. only-parts (eqb c a) (f c))
+    ∙ sumOver-add l (λ c. only (eqb c a) (f c)) (λ c. only (not (eqb c a)) (f c))
+    ∙ ap₂ _+_
+    (sumOver-one (λ c. only (eqb c a) (f c)) d m (λ c mc ne. only-false (f c) (ne-eqb c a ne)) ∙ only-true (f a) (eq-eqb a a refl))
+    (sym (sumOver-keep (λ c. not (eqb c a)) l f))
+
+-- only two members count
+pub sumOver-two : {l : List ℕ} {a b : ℕ} (f : ℕ → ℕ) → Distinct l → a ∈ l → b ∈ l → a ≢ b
+    → ((c : ℕ) → c ∈ l → c ≢ a → c ≢ b → f c ≡ 0) → sumOver l f ≡ f a + f b
+sumOver-two {l} {a} {b} f d ma mb ab h =
+    sumOver-split f d ma
+    ∙ ap (λ (x : ℕ). f a + x)
+    (sumOver-one f (distinct-without a d) (∈-without mb (λ e. ab (sym e))) (λ c m n. let k = without-∈ a l m in h c (k .0) (k .1) n))

@@ -19,7 +19,6 @@ use Rattle.code.specs.Laws.Basics.{places-∈}
 use Rattle.code.specs.Laws.Carrying.{lists-unique, carried-some}
 use Rattle.code.specs.Laws.ParityCount.{parities, messages, erased-parities, forest-parities, parity-lists, parity-or-message, message-lists}
 use Rattle.tables.specs.Picture.{Sized, Counted, Picture}
-use Rattle.tables.specs.PictureLaws.{remaining}
 use Rattle.tables.specs.Sizes.{sized-valid, ∈-sized}
 use Rattle.tables.specs.Spots.{Stands, stands-section, stands-offset}
 use Rattle.sums.specs.SumLaws.{Syndromes}
@@ -45,29 +44,26 @@ pub record Room (t : ℕ) (a b c : List ℕ) : Type 0 where
   pub third-long : length c ≡ 2 * t
 
 -- tables of zeros with an entry for each row
-pub record Blank (t : ℕ) (sum left code : List ℕ) : Type 0 where
+pub record Blank (t : ℕ) (sum tally : List ℕ) : Type 0 where
   pub sum-zeros : sum ≡ replicate (2 * t) 0
-  pub left-zeros : left ≡ replicate (2 * t) 0
-  pub code-zeros : code ≡ replicate (2 * t) 0
+  pub tally-zeros : tally ≡ replicate (2 * t) 0
 
 -- the same with more room, and three tables beside them
-pub record Cut (t : ℕ) (sum left code queue place value : List ℕ) : Type 0 where
+pub record Cut (t : ℕ) (sum tally queue place value : List ℕ) : Type 0 where
   pub sum-zeros : Zeros (2 * t) sum
-  pub left-zeros : Zeros (2 * t) left
-  pub code-zeros : Zeros (2 * t) code
+  pub tally-zeros : Zeros (2 * t) tally
   pub queue-room : 2 * t ≤ length queue
   pub place-room : 2 * t ≤ length place
   pub value-room : 2 * t ≤ length value
 
-pub cut-blank : {t : ℕ} {sum left code queue place value : List ℕ} → Cut t sum left code queue place value
-    → Blank t (take (2 * t) sum) (take (2 * t) left) (take (2 * t) code)
+pub cut-blank : {t : ℕ} {sum tally queue place value : List ℕ} → Cut t sum tally queue place value
+    → Blank t (take (2 * t) sum) (take (2 * t) tally)
 cut-blank c = record {
   sum-zeros = zeros-part (c .sum-zeros);
-  left-zeros = zeros-part (c .left-zeros);
-  code-zeros = zeros-part (c .code-zeros);
+  tally-zeros = zeros-part (c .tally-zeros);
 }
 
-pub cut-room : {t : ℕ} {sum left code queue place value : List ℕ} → Cut t sum left code queue place value
+pub cut-room : {t : ℕ} {sum tally queue place value : List ℕ} → Cut t sum tally queue place value
     → Room t (take (2 * t) queue) (take (2 * t) place) (take (2 * t) value)
 cut-room {t = t} {queue = queue} {place = place} {value = value} c = record {
   first-long = length-take-le (2 * t) queue (c .queue-room);
@@ -76,13 +72,12 @@ cut-room {t = t} {queue = queue} {place = place} {value = value} c = record {
 }
 
 -- arrays of k zeros
-pub cut-arrays : {t : ℕ} (k : ℕ) → 2 * t ≤ k → Cut t (replicate k 0) (replicate k 0) (replicate k 0) (replicate k 0) (replicate k 0) (replicate k 0)
+pub cut-arrays : {t : ℕ} (k : ℕ) → 2 * t ≤ k → Cut t (replicate k 0) (replicate k 0) (replicate k 0) (replicate k 0) (replicate k 0)
 cut-arrays {t} k h =
     let room : 2 * t ≤ length (replicate {A = ℕ} k 0) = omega (arith, length-replicate {A = ℕ} k 0) in
     record {
       sum-zeros = zeros k h;
-      left-zeros = zeros k h;
-      code-zeros = zeros k h;
+      tally-zeros = zeros k h;
       queue-room = room;
       place-room = room;
       value-room = room;
@@ -111,15 +106,15 @@ module _ {n t : ℕ} {shifts runs : List ℕ} (s : Sized n t shifts) (h : RunsOf
       let e : getD runs (d / t) 0 ≡ getD runs j 0 = ap (λ i. getD runs i 0) (stands-section st) in
       (λ m. omega (arith, o .0 m, e, stands-offset st), λ k. o .1 (omega (arith, e, stands-offset st)))
 
-  module _ {left code : List ℕ} {j c e : ℕ} (l : j < n) (ec : c ≡ j * t + getD runs j 0) (ee : e ≡ j * t + t)
-      (S : Seen n t shifts (parities (layout n t shifts)) (j * t) left code) where
+  module _ {tally : List ℕ} {j c e : ℕ} (l : j < n) (ec : c ≡ j * t + getD runs j 0) (ee : e ≡ j * t + t)
+      (S : Seen n t shifts (parities (layout n t shifts)) (j * t) tally) where
     section-all : All (parities (layout n t shifts)) c e
     section-all d a b = section-parity j d l (omega arith) (omega arith) .1 (omega arith)
 
-    section-seen : Seen n t shifts (parities (layout n t shifts)) c left code
+    section-seen : Seen n t shifts (parities (layout n t shifts)) c tally
     section-seen = seen-skip c S (omega arith) (λ d a b m. let k = section-parity j d l a (omega (arith, runs-short h j)) .0 m in omega arith)
 
-    pub section-due : Due n t shifts c e left code
+    pub section-due : Due n t shifts c e tally
     section-due = record {
       sized = s;
       E = parities (layout n t shifts);
@@ -128,28 +123,28 @@ module _ {n t : ℕ} {shifts runs : List ℕ} (s : Sized n t shifts) (h : RunsOf
       seen = section-seen;
     }
 
-    pub section-noted : {left' code' : List ℕ} → Notes n t shifts c e left code left' code' → Seen n t shifts (parities (layout n t shifts)) e left' code'
+    pub section-noted : {tally' : List ℕ} → Notes n t shifts c e tally tally' → Seen n t shifts (parities (layout n t shifts)) e tally'
     section-noted N = N .notes (parities (layout n t shifts)) (erased-parities (layout n t shifts)) section-all section-seen
 
-  pub all-noted : {left code : List ℕ} {c : ℕ} → Seen n t shifts (parities (layout n t shifts)) c left code → n * t ≤ c
-      → Counted (layout n t shifts) (parities (layout n t shifts)) left code
+  pub all-noted : {tally : List ℕ} {c : ℕ} → Seen n t shifts (parities (layout n t shifts)) c tally → n * t ≤ c
+      → Counted (layout n t shifts) (parities (layout n t shifts)) tally
   all-noted S g = seen-all s (erased-parities (layout n t shifts)) S g
 
 -- the tables picture the block with the parity places as erasures
-abbrev pub ParityPicture : Layout → List ℕ → List ℕ → List ℕ → List ℕ → Type 0
-ParityPicture L block sum left code = Picture L (parities L) (λ c. getD block c 0) sum left code
+abbrev pub ParityPicture : Layout → List ℕ → List ℕ → List ℕ → Type 0
+ParityPicture L block sum tally = Picture L (parities L) (λ c. getD block c 0) sum tally
 
 -- the block becomes every codeword that agrees with it off the parity places
 pub record Settled (L : Layout) (v v' : List ℕ) : Type 0 where
   pub found : (w : List ℕ) → Agrees L (parities L) v w → v' ≡ w
 
-pub parity-picture : {n t : ℕ} {shifts block sum left code : List ℕ} → ((c : ℕ) → getD block c 0 < 256) → Syndromes n t shifts block sum
-    → Counted (layout n t shifts) (parities (layout n t shifts)) left code → ParityPicture (layout n t shifts) block sum left code
+pub parity-picture : {n t : ℕ} {shifts block sum tally : List ℕ} → ((c : ℕ) → getD block c 0 < 256) → Syndromes n t shifts block sum
+    → Counted (layout n t shifts) (parities (layout n t shifts)) tally → ParityPicture (layout n t shifts) block sum tally
 unfolding layout
-parity-picture byte s c = record { sum-long = s .long; byte = byte; sums = s .each; counted = remaining c }
+parity-picture byte s c = record { sum-long = s .long; byte = byte; sums = s .each; counted = c }
 
-pub peelable : {n t : ℕ} {shifts : List ℕ} → Sized n t shifts → (v : List ℕ) {sum left code queue place value : List ℕ} →
-    ParityPicture (layout n t shifts) v sum left code → Room t queue place value → Peelable n t shifts sum left code queue place value
+pub peelable : {n t : ℕ} {shifts : List ℕ} → Sized n t shifts → (v : List ℕ) {sum tally queue place value : List ℕ} →
+    ParityPicture (layout n t shifts) v sum tally → Room t queue place value → Peelable n t shifts sum tally queue place value
 peelable {n} {t} {shifts} s v p room = record {
   sized = s;
   pictured = record { E = parities (layout n t shifts); u = λ c. getD v c 0; picture = p };
@@ -158,10 +153,10 @@ peelable {n} {t} {shifts} s v p room = record {
   value-long = room .third-long;
 }
 
-module _ {n t : ℕ} {shifts : List ℕ} (s : Sized n t shifts) (v : List ℕ) (long : length v ≡ n * t) {sum left code sum' left' code' place value : List ℕ} {k : ℕ}
-    (pic : ParityPicture (layout n t shifts) v sum left code)
-    (p : Peels (layout n t shifts) sum left code sum' left' code' place value k) where
-  ends : Peeled (layout n t shifts) (parities (layout n t shifts)) (λ c. getD v c 0) sum' left' code' place value k
+module _ {n t : ℕ} {shifts : List ℕ} (s : Sized n t shifts) (v : List ℕ) (long : length v ≡ n * t) {sum tally sum' tally' place value : List ℕ} {k : ℕ}
+    (pic : ParityPicture (layout n t shifts) v sum tally)
+    (p : Peels (layout n t shifts) sum tally sum' tally' place value k) where
+  ends : Peeled (layout n t shifts) (parities (layout n t shifts)) (λ c. getD v c 0) sum' tally' place value k
   ends = p .peeled _ _ pic
 
   -- peeling left nothing

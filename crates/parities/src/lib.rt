@@ -16,17 +16,10 @@ use tables::marks::note_places;
 use tables::walk::Section;
 
 // Counts the parity places in tables of zeros: of each section those from its run on.
-fn count_parities(
-    n: usize,
-    t: usize,
-    shifts: &[u16],
-    runs: &[u16],
-    left: &mut [u8],
-    code: &mut [u16],
-)
+fn count_parities(n: usize, t: usize, shifts: &[u16], runs: &[u16], tally: &mut [u16])
     requires { ⌜ Sized n t (now shifts) × RunsOf n t (layout n t (now shifts)) (now runs) ⌝ }
-    requires { ⌜ (now left ≡ replicate (2 * t) 0) × (now code ≡ replicate (2 * t) 0) ⌝ }
-    ensures { λ _. ⌜ Counted (layout n t (now (shifts .entry))) (parities (layout n t (now (shifts .entry)))) (now (left .exit)) (now (code .exit)) ⌝ }
+    requires { ⌜ now tally ≡ replicate (2 * t) 0 ⌝ }
+    ensures { λ _. ⌜ Counted (layout n t (now (shifts .entry))) (parities (layout n t (now (shifts .entry)))) (now (tally .exit)) ⌝ }
 {
     let mut at = Section::start(n, t, shifts);
     let mut end = 0;
@@ -34,7 +27,7 @@ fn count_parities(
     while j < n {
         let c = end + wide(runs[j]);
         end += t;
-        at = note_places(n, t, shifts, c, end, at, &mut left[..], &mut code[..]);
+        at = note_places(n, t, shifts, c, end, at, &mut tally[..]);
         j += 1;
     }
 }
@@ -47,26 +40,24 @@ fn settle_parities(
     runs: &[u16],
     block: &mut [u8],
     sum: &mut [u8],
-    left: &mut [u8],
-    code: &mut [u16],
+    tally: &mut [u16],
     queue: &mut [u16],
     place: &mut [u16],
     value: &mut [u8],
 )
     requires { ⌜ Sealable n t (now shifts) (now runs) (now block) ⌝ }
-    requires { ⌜ Blank t (now sum) (now left) (now code) ⌝ }
+    requires { ⌜ Blank t (now sum) (now tally) ⌝ }
     requires { ⌜ Room t (now queue) (now place) (now value) ⌝ }
     ensures { λ _. ⌜ Settled (layout n t (now (shifts .entry))) (now (block .entry)) (now (block .exit)) ⌝ }
 {
     syndromes(n, t, shifts, &block[..], &mut sum[..]);
-    count_parities(n, t, shifts, runs, &mut left[..], &mut code[..]);
+    count_parities(n, t, shifts, runs, &mut tally[..]);
     let k = peel(
         n,
         t,
         shifts,
         &mut sum[..],
-        &mut left[..],
-        &mut code[..],
+        &mut tally[..],
         &mut queue[..],
         &mut place[..],
         &mut value[..],
@@ -82,14 +73,13 @@ fn cut(
     runs: &[u16],
     block: &mut [u8],
     sum: &mut [u8],
-    left: &mut [u8],
-    code: &mut [u16],
+    tally: &mut [u16],
     queue: &mut [u16],
     place: &mut [u16],
     value: &mut [u8],
 )
     requires { ⌜ Sealable n t (now shifts) (now runs) (now block) ⌝ }
-    requires { ⌜ Cut t (now sum) (now left) (now code) (now queue) (now place) (now value) ⌝ }
+    requires { ⌜ Cut t (now sum) (now tally) (now queue) (now place) (now value) ⌝ }
     ensures { λ _. ⌜ Settled (layout n t (now (shifts .entry))) (now (block .entry)) (now (block .exit)) ⌝ }
 {
     let rows = 2 * t;
@@ -100,8 +90,7 @@ fn cut(
         runs,
         block,
         &mut sum[..rows],
-        &mut left[..rows],
-        &mut code[..rows],
+        &mut tally[..rows],
         &mut queue[..rows],
         &mut place[..rows],
         &mut value[..rows],
@@ -114,8 +103,7 @@ fn fill_small(n: usize, t: usize, shifts: &[u16], runs: &[u16], block: &mut [u8]
     ensures { λ _. ⌜ Settled (layout n t (now (shifts .entry))) (now (block .entry)) (now (block .exit)) ⌝ }
 {
     let mut sum = [0u8; 64];
-    let mut left = [0u8; 64];
-    let mut code = [0u16; 64];
+    let mut tally = [0u16; 64];
     let mut queue = [0u16; 64];
     let mut place = [0u16; 64];
     let mut value = [0u8; 64];
@@ -126,8 +114,7 @@ fn fill_small(n: usize, t: usize, shifts: &[u16], runs: &[u16], block: &mut [u8]
         runs,
         block,
         &mut sum[..],
-        &mut left[..],
-        &mut code[..],
+        &mut tally[..],
         &mut queue[..],
         &mut place[..],
         &mut value[..],
@@ -140,8 +127,7 @@ fn fill_medium(n: usize, t: usize, shifts: &[u16], runs: &[u16], block: &mut [u8
     ensures { λ _. ⌜ Settled (layout n t (now (shifts .entry))) (now (block .entry)) (now (block .exit)) ⌝ }
 {
     let mut sum = [0u8; 384];
-    let mut left = [0u8; 384];
-    let mut code = [0u16; 384];
+    let mut tally = [0u16; 384];
     let mut queue = [0u16; 384];
     let mut place = [0u16; 384];
     let mut value = [0u8; 384];
@@ -152,8 +138,7 @@ fn fill_medium(n: usize, t: usize, shifts: &[u16], runs: &[u16], block: &mut [u8
         runs,
         block,
         &mut sum[..],
-        &mut left[..],
-        &mut code[..],
+        &mut tally[..],
         &mut queue[..],
         &mut place[..],
         &mut value[..],
@@ -166,8 +151,7 @@ fn fill_wide(n: usize, t: usize, shifts: &[u16], runs: &[u16], block: &mut [u8])
     ensures { λ _. ⌜ Settled (layout n t (now (shifts .entry))) (now (block .entry)) (now (block .exit)) ⌝ }
 {
     let mut sum = [0u8; 2112];
-    let mut left = [0u8; 2112];
-    let mut code = [0u16; 2112];
+    let mut tally = [0u16; 2112];
     let mut queue = [0u16; 2112];
     let mut place = [0u16; 2112];
     let mut value = [0u8; 2112];
@@ -178,8 +162,7 @@ fn fill_wide(n: usize, t: usize, shifts: &[u16], runs: &[u16], block: &mut [u8])
         runs,
         block,
         &mut sum[..],
-        &mut left[..],
-        &mut code[..],
+        &mut tally[..],
         &mut queue[..],
         &mut place[..],
         &mut value[..],
@@ -192,8 +175,7 @@ fn fill_large(n: usize, t: usize, shifts: &[u16], runs: &[u16], block: &mut [u8]
     ensures { λ _. ⌜ Settled (layout n t (now (shifts .entry))) (now (block .entry)) (now (block .exit)) ⌝ }
 {
     let mut sum = [0u8; 4160];
-    let mut left = [0u8; 4160];
-    let mut code = [0u16; 4160];
+    let mut tally = [0u16; 4160];
     let mut queue = [0u16; 4160];
     let mut place = [0u16; 4160];
     let mut value = [0u8; 4160];
@@ -204,8 +186,7 @@ fn fill_large(n: usize, t: usize, shifts: &[u16], runs: &[u16], block: &mut [u8]
         runs,
         block,
         &mut sum[..],
-        &mut left[..],
-        &mut code[..],
+        &mut tally[..],
         &mut queue[..],
         &mut place[..],
         &mut value[..],

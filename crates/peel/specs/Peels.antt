@@ -1,69 +1,59 @@
 -- What the turns of peeling promise up to `peel` (Peels), and the loop's invariant (Peeling).
 -- L is always the layout of n, t and the shifts.
-use mathlib.Core.Path.{_≡_, sym, _∙_, ap, subst}
-use mathlib.Core.Logic.{_≢_, _⊎_, inl, inr, ⊎-elim}
+use mathlib.Core.Path.{_≡_, sym, _∙_, ap}
+use mathlib.Core.Logic.{_≢_}
 use mathlib.Core.List.{List}
-use Prim.Native.Nat.{ℕ, _+_, _-_, _*_, _/_, _%_, _≤_, _<_}
-use native.Mathlib.Nat.{mod-lt}
+use Prim.Native.Nat.{ℕ, _+_, _-_, _*_, _≤_, _<_}
 use native.Mathlib.Omega.{arith}
-use lib.Arith.{digits-lt}
 use lib.ListN.{length, getD, set, length-set}
-use lib.Seq.{getD-set-same, getD-set-other}
-use Rattle.math.specs.Members.{_∈_, without}
-use Rattle.math.specs.MembersLaws.{upTo-∈}
-use Rattle.math.specs.Xor.{_⊕_, ⊕-self, ⊕-lt}
-use Rattle.plan.specs.Layout.{Layout, layout, placeOf, topRow, bottomRow, top, bottom}
-use Rattle.code.specs.Places.{places, Meets}
-use Rattle.code.specs.Codewords.{syndrome}
+use Rattle.math.specs.Members.{without}
+use Rattle.math.specs.Xor.{_⊕_}
+use Rattle.plan.specs.Layout.{Layout, layout}
 use Rattle.code.specs.Checks.{update}
-use Rattle.code.specs.Laws.Basics.{places-∈, top-lt, bottom-ge, top≢bottom, meets-row}
-use Rattle.tables.specs.Picture.{Sized, Picture, Pictured, Settles, Stuck}
-use Rattle.tables.specs.PictureLaws.{Touched, picture-less}
-use Rattle.tables.specs.Sizes.{sized-valid}
-use Rattle.tables.specs.Bounds.{left-some}
-use Rattle.tables.specs.Spots.{bottom-low, bottom-high}
-use Rattle.settling.specs.Queue.{Queued, Waits, Enters, Lowers, room, full, entered, passed, taken, emptied}
-use Rattle.settling.specs.Settling.{Single, single, row-forces, syndrome-byte, touched-two, settles-none, settles-more}
-use Rattle.settling.specs.Takes.{One, Next, Takes}
+use Rattle.tables.specs.Picture.{Sized, counts, Picture, Pictured, Settles, Stuck}
+use Rattle.tables.specs.Bounds.{tally-counts}
+use Rattle.settling.specs.Queue.{Queued, Waits, Enters, room, full, entered, passed, taken, emptied}
+use Rattle.settling.specs.Settling.{settles-none, settles-more}
+use Rattle.settling.specs.Takes.{One, Takes}
 
 -- from erasures E and block u on, k places are settled
-pub record Reached (L : Layout) (E : List ℕ) (u : ℕ → ℕ) (sum left code place value : List ℕ) (k : ℕ) : Type 0 where
+pub record Reached (L : Layout) (E : List ℕ) (u : ℕ → ℕ) (sum tally place value : List ℕ) (k : ℕ) : Type 0 where
   pub F : List ℕ
   pub x : ℕ → ℕ
-  pub picture : Picture L F x sum left code
+  pub picture : Picture L F x sum tally
   pub settles : Settles L E u F x place value k
 
 -- between two turns
-pub record Ready (n t : ℕ) (shifts sum left code queue place value : List ℕ) (head tail count : ℕ) : Type 0 where
+pub record Ready (n t : ℕ) (shifts sum tally queue place value : List ℕ) (head tail count : ℕ) : Type 0 where
   pub sized : Sized n t shifts
-  pub pictured : Pictured (layout n t shifts) sum left code
-  pub queued : Queued left queue (2 * t) head tail
+  pub pictured : Pictured (layout n t shifts) sum tally
+  pub queued : Queued tally queue (2 * t) head tail
   pub counted : count ≤ head
   pub queue-long : length queue ≡ 2 * t
   pub place-long : length place ≡ 2 * t
   pub value-long : length value ≡ 2 * t
 
 -- one turn
-pub record Steps (n t : ℕ) (shifts sum left code queue place value : List ℕ) (head count : ℕ)
-    (sum' left' code' queue' place' value' : List ℕ) (tail' count' : ℕ) : Type 0 where
-  pub ready : Ready n t shifts sum' left' code' queue' place' value' (head + 1) tail' count'
-  pub reached : (E : List ℕ) (u : ℕ → ℕ) → Reached (layout n t shifts) E u sum left code place value count
-      → Reached (layout n t shifts) E u sum' left' code' place' value' count'
+pub record Steps (n t : ℕ) (shifts sum tally queue place value : List ℕ) (head count : ℕ)
+    (sum' tally' queue' place' value' : List ℕ) (tail' count' : ℕ) : Type 0 where
+  pub ready : Ready n t shifts sum' tally' queue' place' value' (head + 1) tail' count'
+  pub reached : (E : List ℕ) (u : ℕ → ℕ) → Reached (layout n t shifts) E u sum tally place value count
+      → Reached (layout n t shifts) E u sum' tally' place' value' count'
 
-module _ {n t : ℕ} {shifts sum left code queue place value : List ℕ} {head tail count : ℕ}
-    (d : Ready n t shifts sum left code queue place value head tail count) (h : head < tail) where
+module _ {n t : ℕ} {shifts sum tally queue place value : List ℕ} {head tail count : ℕ}
+    (d : Ready n t shifts sum tally queue place value head tail count) (h : head < tail) where
   pub head-row : getD queue head 0 < 2 * t
   head-row = d .queued .entries .below head h
 
   pub head-long : head < length queue
   head-long = omega (arith, full (d .queued), d .queue-long)
 
-  pub head-left : getD queue head 0 < length left
+  pub head-tally : getD queue head 0 < length tally
   unfolding layout
-  head-left = omega (arith, head-row, d .pictured .picture .counted .left-long)
+  head-tally = omega (arith, head-row, d .pictured .picture .counted .long)
 
-  pub steps-over : getD left (getD queue head 0) 0 ≢ 1
-      → Steps n t shifts sum left code queue place value head count sum left code queue place value tail count
+  pub steps-over : counts tally (getD queue head 0) ≢ 1
+      → Steps n t shifts sum tally queue place value head count sum tally queue place value tail count
   steps-over e = record {
     ready = record {
       sized = d .sized;
@@ -77,7 +67,7 @@ module _ {n t : ℕ} {shifts sum left code queue place value : List ℕ} {head t
     reached = λ E u q. q;
   }
 
-  pub head-one : getD left (getD queue head 0) 0 ≡ 1 → One n t shifts sum left code (getD queue head 0)
+  pub head-one : counts tally (getD queue head 0) ≡ 1 → One n t shifts sum tally (getD queue head 0)
   head-one e = record { sized = d .sized; pictured = d .pictured; row = head-row; left-one = e }
 
   pub count-lt : count < 2 * t
@@ -86,21 +76,21 @@ module _ {n t : ℕ} {shifts sum left code queue place value : List ℕ} {head t
   pub count-long : (count < length place) × (count < length value)
   count-long = (omega (arith, count-lt, d .place-long), omega (arith, count-lt, d .value-long))
 
-  module _ {sum' left' code' : List ℕ} {c x b : ℕ} (k : Takes (layout n t shifts) sum left code sum' left' code' (getD queue head 0) c x b) where
-    step-waits : Waits left' queue (2 * t) (head + 1) tail b
+  module _ {sum' tally' : List ℕ} {c x b : ℕ} (k : Takes (layout n t shifts) sum tally sum' tally' (getD queue head 0) c x b) where
+    step-waits : Waits tally' queue (2 * t) (head + 1) tail b
     unfolding layout
     step-waits = taken (d .queued) h (k .inside) (k .lowers)
 
-    step-room : getD left' b 0 ≡ 1 → tail < length queue
+    step-room : counts tally' b ≡ 1 → tail < length queue
     step-room e = omega (arith, room step-waits e, d .queue-long)
 
-    pub rest-room : {rest : ℕ} → rest ≡ getD left' b 0 → (b < 4096) × (rest ≡ 1 → tail < length queue)
+    pub rest-room : {rest : ℕ} → rest ≡ counts tally' b → (b < 4096) × (rest ≡ 1 → tail < length queue)
     unfolding layout
     rest-room e = (omega (arith, k .inside, d .sized .t-max), λ one. step-room (sym e ∙ one))
 
-    pub steps : {queue' place' value' : List ℕ} {rest tail' : ℕ} → rest ≡ getD left' b 0 → Enters queue tail b rest queue' tail' → length queue' ≡ length queue
+    pub steps : {queue' place' value' : List ℕ} {rest tail' : ℕ} → rest ≡ counts tally' b → Enters queue tail b rest queue' tail' → length queue' ≡ length queue
         → place' ≡ set place count c → value' ≡ set value count x
-        → Steps n t shifts sum left code queue place value head count sum' left' code' queue' place' value' tail' (count + 1)
+        → Steps n t shifts sum tally queue place value head count sum' tally' queue' place' value' tail' (count + 1)
     steps er e lq ep ev = record {
       ready = record {
         sized = d .sized;
@@ -125,42 +115,42 @@ module _ {n t : ℕ} {shifts sum left code queue place value : List ℕ} {head t
           };
     }
 
--- the loop's invariant: the tables at the start are sum₀, left₀ and code₀
-pub record Peeling (n t : ℕ) (shifts sum₀ left₀ code₀ sum left code queue place value : List ℕ) (head tail count : ℕ) : Type 0 where
-  pub ready : Ready n t shifts sum left code queue place value head tail count
-  pub reached : (E : List ℕ) (u : ℕ → ℕ) → Picture (layout n t shifts) E u sum₀ left₀ code₀
-      → Reached (layout n t shifts) E u sum left code place value count
+-- the loop's invariant: the tables at the start are sum₀ and tally₀
+pub record Peeling (n t : ℕ) (shifts sum₀ tally₀ sum tally queue place value : List ℕ) (head tail count : ℕ) : Type 0 where
+  pub ready : Ready n t shifts sum tally queue place value head tail count
+  pub reached : (E : List ℕ) (u : ℕ → ℕ) → Picture (layout n t shifts) E u sum₀ tally₀
+      → Reached (layout n t shifts) E u sum tally place value count
 
 -- from erasures E and block u on, all is settled that peeling can settle
-pub record Peeled (L : Layout) (E : List ℕ) (u : ℕ → ℕ) (sum left code place value : List ℕ) (k : ℕ) : Type 0 where
+pub record Peeled (L : Layout) (E : List ℕ) (u : ℕ → ℕ) (sum tally place value : List ℕ) (k : ℕ) : Type 0 where
   pub F : List ℕ
   pub x : ℕ → ℕ
-  pub picture : Picture L F x sum left code
+  pub picture : Picture L F x sum tally
   pub settles : Settles L E u F x place value k
   pub stuck : Stuck L F
 
 -- what `peel` ensures: whatever block the tables pictured at the start, the r places and values are the ones settled
-pub record Peels (L : Layout) (sum left code sum' left' code' place' value' : List ℕ) (r : ℕ) : Type 0 where
+pub record Peels (L : Layout) (sum tally sum' tally' place' value' : List ℕ) (r : ℕ) : Type 0 where
   pub few : r ≤ 2 * L .t
   pub place-long : length place' ≡ 2 * L .t
   pub value-long : length value' ≡ 2 * L .t
-  pub peeled : (E : List ℕ) (u : ℕ → ℕ) → Picture L E u sum left code → Peeled L E u sum' left' code' place' value' r
+  pub peeled : (E : List ℕ) (u : ℕ → ℕ) → Picture L E u sum tally → Peeled L E u sum' tally' place' value' r
 
 -- what `peel` requires
-pub record Peelable (n t : ℕ) (shifts sum left code queue place value : List ℕ) : Type 0 where
+pub record Peelable (n t : ℕ) (shifts sum tally queue place value : List ℕ) : Type 0 where
   pub sized : Sized n t shifts
-  pub pictured : Pictured (layout n t shifts) sum left code
+  pub pictured : Pictured (layout n t shifts) sum tally
   pub queue-long : length queue ≡ 2 * t
   pub place-long : length place ≡ 2 * t
   pub value-long : length value ≡ 2 * t
 
-pub peelable-seed : {n t : ℕ} {shifts sum left code queue place value : List ℕ} → Peelable n t shifts sum left code queue place value
-    → (t ≤ 2048) × (length left ≡ 2 * t) × (length queue ≡ 2 * t)
+pub peelable-seed : {n t : ℕ} {shifts sum tally queue place value : List ℕ} → Peelable n t shifts sum tally queue place value
+    → (t ≤ 2048) × (length tally ≡ 2 * t) × (length queue ≡ 2 * t)
 unfolding layout
-peelable-seed d = (d .sized .t-max, d .pictured .picture .counted .left-long, d .queue-long)
+peelable-seed d = (d .sized .t-max, d .pictured .picture .counted .long, d .queue-long)
 
-pub peelable-ready : {n t : ℕ} {shifts sum left code queue place value queue' : List ℕ} {tail : ℕ} → Peelable n t shifts sum left code queue place value
-    → Queued left queue' (2 * t) 0 tail → length queue' ≡ length queue → Ready n t shifts sum left code queue' place value 0 tail 0
+pub peelable-ready : {n t : ℕ} {shifts sum tally queue place value queue' : List ℕ} {tail : ℕ} → Peelable n t shifts sum tally queue place value
+    → Queued tally queue' (2 * t) 0 tail → length queue' ≡ length queue → Ready n t shifts sum tally queue' place value 0 tail 0
 peelable-ready d q l = record {
   sized = d .sized;
   pictured = d .pictured;
@@ -171,44 +161,43 @@ peelable-ready d q l = record {
   value-long = d .value-long;
 }
 
-pub peeling-start : {n t : ℕ} {shifts sum left code queue place value : List ℕ} {tail : ℕ} → Ready n t shifts sum left code queue place value 0 tail 0
-    → Peeling n t shifts sum left code sum left code queue place value 0 tail 0
+pub peeling-start : {n t : ℕ} {shifts sum tally queue place value : List ℕ} {tail : ℕ} → Ready n t shifts sum tally queue place value 0 tail 0
+    → Peeling n t shifts sum tally sum tally queue place value 0 tail 0
 peeling-start {n} {t} {shifts} {place = place} {value = value} d = record {
   ready = d;
   reached = λ E u p. record { F = E; x = u; picture = p; settles = settles-none (layout n t shifts) E u place value };
 }
 
 -- turns make the lists neither longer nor shorter
-pub ready-long : {n t : ℕ} {shifts sum₀ left₀ code₀ queue₀ place₀ value₀ sum left code queue place value : List ℕ} {head₀ tail₀ count₀ head tail count : ℕ}
-    → Ready n t shifts sum₀ left₀ code₀ queue₀ place₀ value₀ head₀ tail₀ count₀ → Ready n t shifts sum left code queue place value head tail count
-    → (length sum ≡ length sum₀) × (length left ≡ length left₀) × (length code ≡ length code₀)
+pub ready-long : {n t : ℕ} {shifts sum₀ tally₀ queue₀ place₀ value₀ sum tally queue place value : List ℕ} {head₀ tail₀ count₀ head tail count : ℕ}
+    → Ready n t shifts sum₀ tally₀ queue₀ place₀ value₀ head₀ tail₀ count₀ → Ready n t shifts sum tally queue place value head tail count
+    → (length sum ≡ length sum₀) × (length tally ≡ length tally₀)
     × (length queue ≡ length queue₀) × (length place ≡ length place₀) × (length value ≡ length value₀)
 ready-long d p =
     let y = d .pictured .picture in
     let z = p .pictured .picture in (
       z .sum-long ∙ sym (y .sum-long),
-      z .counted .left-long ∙ sym (y .counted .left-long),
-      z .counted .code-long ∙ sym (y .counted .code-long),
+      z .counted .long ∙ sym (y .counted .long),
       p .queue-long ∙ sym (d .queue-long),
       p .place-long ∙ sym (d .place-long),
       p .value-long ∙ sym (d .value-long),
     )
 
-pub peeling-less : {n t : ℕ} {shifts sum₀ left₀ code₀ sum left code queue place value : List ℕ} {head tail count : ℕ}
-    → Peeling n t shifts sum₀ left₀ code₀ sum left code queue place value head tail count → head < tail
+pub peeling-less : {n t : ℕ} {shifts sum₀ tally₀ sum tally queue place value : List ℕ} {head tail count : ℕ}
+    → Peeling n t shifts sum₀ tally₀ sum tally queue place value head tail count → head < tail
     → (head < 4096) × (2 * t - (head + 1) < 2 * t - head)
 peeling-less p h = (omega (arith, full (p .ready .queued), p .ready .sized .t-max), omega (arith, full (p .ready .queued)))
 
-pub peeling-step : {n t : ℕ} {shifts sum₀ left₀ code₀ sum left code queue place value : List ℕ} {head tail count : ℕ}
-    {sum' left' code' queue' place' value' : List ℕ} {tail' count' : ℕ}
-    → Peeling n t shifts sum₀ left₀ code₀ sum left code queue place value head tail count
-    → Steps n t shifts sum left code queue place value head count sum' left' code' queue' place' value' tail' count'
-    → Peeling n t shifts sum₀ left₀ code₀ sum' left' code' queue' place' value' (head + 1) tail' count'
+pub peeling-step : {n t : ℕ} {shifts sum₀ tally₀ sum tally queue place value : List ℕ} {head tail count : ℕ}
+    {sum' tally' queue' place' value' : List ℕ} {tail' count' : ℕ}
+    → Peeling n t shifts sum₀ tally₀ sum tally queue place value head tail count
+    → Steps n t shifts sum tally queue place value head count sum' tally' queue' place' value' tail' count'
+    → Peeling n t shifts sum₀ tally₀ sum' tally' queue' place' value' (head + 1) tail' count'
 peeling-step p s = record { ready = s .ready; reached = λ E u q. s .reached E u (p .reached E u q) }
 
-pub peeling-end : {n t : ℕ} {shifts sum₀ left₀ code₀ sum left code queue place value : List ℕ} {head tail count : ℕ}
-    → Peeling n t shifts sum₀ left₀ code₀ sum left code queue place value head tail count → tail ≤ head
-    → Peels (layout n t shifts) sum₀ left₀ code₀ sum left code place value count
+pub peeling-end : {n t : ℕ} {shifts sum₀ tally₀ sum tally queue place value : List ℕ} {head tail count : ℕ}
+    → Peeling n t shifts sum₀ tally₀ sum tally queue place value head tail count → tail ≤ head
+    → Peels (layout n t shifts) sum₀ tally₀ sum tally place value count
 unfolding layout Stuck
 peeling-end p h = record {
   few = omega (arith, p .ready .counted, p .ready .queued .order, full (p .ready .queued));
@@ -221,6 +210,6 @@ peeling-end p h = record {
         x = y .x;
         picture = y .picture;
         settles = y .settles;
-        stuck = λ r l e. emptied (p .ready .queued) h r l (y .picture .counted .lefts r l ∙ e);
+        stuck = λ r l e. emptied (p .ready .queued) h r l (tally-counts (p .ready .sized) (y .picture .counted) l ∙ e);
       };
 }

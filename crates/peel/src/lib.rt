@@ -21,33 +21,24 @@ fn step_chain(
     t: usize,
     shifts: &[u16],
     sum: &mut [u8],
-    left: &mut [u8],
-    code: &mut [u16],
+    tally: &mut [u16],
     queue: &mut [u16],
     place: &mut [u16],
     value: &mut [u8],
     head: usize,
     ends: Ends,
 ) -> Ends
-    requires { ⌜ Ready n t (now shifts) (now sum) (now left) (now code) (now queue) (now place) (now value) head (ends .tail) (ends .count) ⌝ }
+    requires { ⌜ Ready n t (now shifts) (now sum) (now tally) (now queue) (now place) (now value) head (ends .tail) (ends .count) ⌝ }
     requires { ⌜ head < ends .tail ⌝ }
-    ensures { λ r. ⌜ Steps n t (now (shifts .entry)) (now (sum .entry)) (now (left .entry)) (now (code .entry)) (now (queue .entry)) (now (place .entry)) (now (value .entry)) head (ends .count) (now (sum .exit)) (now (left .exit)) (now (code .exit)) (now (queue .exit)) (now (place .exit)) (now (value .exit)) (r .tail) (r .count) ⌝ }
+    ensures { λ r. ⌜ Steps n t (now (shifts .entry)) (now (sum .entry)) (now (tally .entry)) (now (queue .entry)) (now (place .entry)) (now (value .entry)) head (ends .count) (now (sum .exit)) (now (tally .exit)) (now (queue .exit)) (now (place .exit)) (now (value .exit)) (r .tail) (r .count) ⌝ }
 {
     let tail = ends.tail;
     let count = ends.count;
     let row = queue[head] as usize;
-    if left[row] != 1 {
+    if tally[row] / 1024 != 1 {
         return Ends { tail, count };
     }
-    let s = settle(
-        n,
-        t,
-        shifts,
-        &mut sum[..],
-        &mut left[..],
-        &mut code[..],
-        row,
-    );
+    let s = settle(n, t, shifts, &mut sum[..], &mut tally[..], row);
     let longer = enter(&mut queue[..], tail, s.other, s.rest);
     place[count] = s.place.0;
     value[count] = s.value;
@@ -63,33 +54,24 @@ fn step_stored(
     t: usize,
     shifts: &[u16],
     sum: &mut [u8],
-    left: &mut [u8],
-    code: &mut [u16],
+    tally: &mut [u16],
     queue: &mut [u16],
     place: &mut [u16],
     value: &mut [u8],
     head: usize,
     ends: Ends,
 ) -> Ends
-    requires { ⌜ Ready n t (now shifts) (now sum) (now left) (now code) (now queue) (now place) (now value) head (ends .tail) (ends .count) ⌝ }
+    requires { ⌜ Ready n t (now shifts) (now sum) (now tally) (now queue) (now place) (now value) head (ends .tail) (ends .count) ⌝ }
     requires { ⌜ head < ends .tail ⌝ }
-    ensures { λ r. ⌜ Steps n t (now (shifts .entry)) (now (sum .entry)) (now (left .entry)) (now (code .entry)) (now (queue .entry)) (now (place .entry)) (now (value .entry)) head (ends .count) (now (sum .exit)) (now (left .exit)) (now (code .exit)) (now (queue .exit)) (now (place .exit)) (now (value .exit)) (r .tail) (r .count) ⌝ }
+    ensures { λ r. ⌜ Steps n t (now (shifts .entry)) (now (sum .entry)) (now (tally .entry)) (now (queue .entry)) (now (place .entry)) (now (value .entry)) head (ends .count) (now (sum .exit)) (now (tally .exit)) (now (queue .exit)) (now (place .exit)) (now (value .exit)) (r .tail) (r .count) ⌝ }
 {
     let tail = ends.tail;
     let count = ends.count;
     let row = queue[head] as usize;
-    if left[row] != 1 {
+    if tally[row] / 1024 != 1 {
         return Ends { tail, count };
     }
-    let s = settle(
-        n,
-        t,
-        shifts,
-        &mut sum[..],
-        &mut left[..],
-        &mut code[..],
-        row,
-    );
+    let s = settle(n, t, shifts, &mut sum[..], &mut tally[..], row);
     let longer = enter_stored(&mut queue[..], tail, s.other, s.rest);
     place[count] = s.place.0;
     value[count] = s.value;
@@ -105,15 +87,14 @@ fn drain_chains(
     t: usize,
     shifts: &[u16],
     sum: &mut [u8],
-    left: &mut [u8],
-    code: &mut [u16],
+    tally: &mut [u16],
     queue: &mut [u16],
     place: &mut [u16],
     value: &mut [u8],
     seeds: usize,
 ) -> usize
-    requires { ⌜ Ready n t (now shifts) (now sum) (now left) (now code) (now queue) (now place) (now value) 0 seeds 0 ⌝ }
-    ensures { λ r. ⌜ Peels (layout n t (now (shifts .entry))) (now (sum .entry)) (now (left .entry)) (now (code .entry)) (now (sum .exit)) (now (left .exit)) (now (code .exit)) (now (place .exit)) (now (value .exit)) r ⌝ }
+    requires { ⌜ Ready n t (now shifts) (now sum) (now tally) (now queue) (now place) (now value) 0 seeds 0 ⌝ }
+    ensures { λ r. ⌜ Peels (layout n t (now (shifts .entry))) (now (sum .entry)) (now (tally .entry)) (now (sum .exit)) (now (tally .exit)) (now (place .exit)) (now (value .exit)) r ⌝ }
 {
     let mut tail = seeds;
     let mut count = 0;
@@ -124,8 +105,7 @@ fn drain_chains(
             t,
             shifts,
             &mut sum[..],
-            &mut left[..],
-            &mut code[..],
+            &mut tally[..],
             &mut queue[..],
             &mut place[..],
             &mut value[..],
@@ -145,15 +125,14 @@ fn drain_stored(
     t: usize,
     shifts: &[u16],
     sum: &mut [u8],
-    left: &mut [u8],
-    code: &mut [u16],
+    tally: &mut [u16],
     queue: &mut [u16],
     place: &mut [u16],
     value: &mut [u8],
     seeds: usize,
 ) -> usize
-    requires { ⌜ Ready n t (now shifts) (now sum) (now left) (now code) (now queue) (now place) (now value) 0 seeds 0 ⌝ }
-    ensures { λ r. ⌜ Peels (layout n t (now (shifts .entry))) (now (sum .entry)) (now (left .entry)) (now (code .entry)) (now (sum .exit)) (now (left .exit)) (now (code .exit)) (now (place .exit)) (now (value .exit)) r ⌝ }
+    requires { ⌜ Ready n t (now shifts) (now sum) (now tally) (now queue) (now place) (now value) 0 seeds 0 ⌝ }
+    ensures { λ r. ⌜ Peels (layout n t (now (shifts .entry))) (now (sum .entry)) (now (tally .entry)) (now (sum .exit)) (now (tally .exit)) (now (place .exit)) (now (value .exit)) r ⌝ }
 {
     let mut tail = seeds;
     let mut count = 0;
@@ -164,8 +143,7 @@ fn drain_stored(
             t,
             shifts,
             &mut sum[..],
-            &mut left[..],
-            &mut code[..],
+            &mut tally[..],
             &mut queue[..],
             &mut place[..],
             &mut value[..],
@@ -185,16 +163,15 @@ pub fn peel(
     t: usize,
     shifts: &[u16],
     sum: &mut [u8],
-    left: &mut [u8],
-    code: &mut [u16],
+    tally: &mut [u16],
     queue: &mut [u16],
     place: &mut [u16],
     value: &mut [u8],
 ) -> usize
-    requires { ⌜ Peelable n t (now shifts) (now sum) (now left) (now code) (now queue) (now place) (now value) ⌝ }
-    ensures { λ r. ⌜ Peels (layout n t (now (shifts .entry))) (now (sum .entry)) (now (left .entry)) (now (code .entry)) (now (sum .exit)) (now (left .exit)) (now (code .exit)) (now (place .exit)) (now (value .exit)) r ⌝ }
+    requires { ⌜ Peelable n t (now shifts) (now sum) (now tally) (now queue) (now place) (now value) ⌝ }
+    ensures { λ r. ⌜ Peels (layout n t (now (shifts .entry))) (now (sum .entry)) (now (tally .entry)) (now (sum .exit)) (now (tally .exit)) (now (place .exit)) (now (value .exit)) r ⌝ }
 {
-    let tail = seed(t, &left[..], &mut queue[..]);
+    let tail = seed(t, &tally[..], &mut queue[..]);
     // Few rows to start from: the erasures lie in chains.
     if tail < t / 8 {
         return drain_chains(
@@ -202,8 +179,7 @@ pub fn peel(
             t,
             shifts,
             &mut sum[..],
-            &mut left[..],
-            &mut code[..],
+            &mut tally[..],
             &mut queue[..],
             &mut place[..],
             &mut value[..],
@@ -215,8 +191,7 @@ pub fn peel(
         t,
         shifts,
         &mut sum[..],
-        &mut left[..],
-        &mut code[..],
+        &mut tally[..],
         &mut queue[..],
         &mut place[..],
         &mut value[..],

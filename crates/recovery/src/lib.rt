@@ -78,8 +78,7 @@ fn decide_small(
     if intact(n, t, shifts, &block[..], marks, &mut sum[..]) {
         return recovered(witness);
     }
-    let mut left = [0u8; 64];
-    let mut code = [0u16; 64];
+    let mut tally = [0u16; 64];
     let mut place = [0u16; 64];
     let mut value = [0u8; 64];
     cut(
@@ -89,8 +88,7 @@ fn decide_small(
         block,
         marks,
         &mut sum[..],
-        &mut left[..],
-        &mut code[..],
+        &mut tally[..],
         &mut place[..],
         &mut value[..],
         witness,
@@ -113,8 +111,7 @@ fn decide_medium(
     if intact(n, t, shifts, &block[..], marks, &mut sum[..]) {
         return recovered(witness);
     }
-    let mut left = [0u8; 384];
-    let mut code = [0u16; 384];
+    let mut tally = [0u16; 384];
     let mut place = [0u16; 384];
     let mut value = [0u8; 384];
     cut(
@@ -124,8 +121,7 @@ fn decide_medium(
         block,
         marks,
         &mut sum[..],
-        &mut left[..],
-        &mut code[..],
+        &mut tally[..],
         &mut place[..],
         &mut value[..],
         witness,
@@ -148,8 +144,7 @@ fn decide_wide(
     if intact(n, t, shifts, &block[..], marks, &mut sum[..]) {
         return recovered(witness);
     }
-    let mut left = [0u8; 1088];
-    let mut code = [0u16; 1088];
+    let mut tally = [0u16; 1088];
     let mut place = [0u16; 1088];
     let mut value = [0u8; 1088];
     cut(
@@ -159,8 +154,7 @@ fn decide_wide(
         block,
         marks,
         &mut sum[..],
-        &mut left[..],
-        &mut code[..],
+        &mut tally[..],
         &mut place[..],
         &mut value[..],
         witness,
@@ -183,8 +177,7 @@ fn decide_wider(
     if intact(n, t, shifts, &block[..], marks, &mut sum[..]) {
         return recovered(witness);
     }
-    let mut left = [0u8; 2112];
-    let mut code = [0u16; 2112];
+    let mut tally = [0u16; 2112];
     let mut place = [0u16; 2112];
     let mut value = [0u8; 2112];
     cut(
@@ -194,8 +187,7 @@ fn decide_wider(
         block,
         marks,
         &mut sum[..],
-        &mut left[..],
-        &mut code[..],
+        &mut tally[..],
         &mut place[..],
         &mut value[..],
         witness,
@@ -218,8 +210,7 @@ fn decide_large(
     if intact(n, t, shifts, &block[..], marks, &mut sum[..]) {
         return recovered(witness);
     }
-    let mut left = [0u8; 4160];
-    let mut code = [0u16; 4160];
+    let mut tally = [0u16; 4160];
     let mut place = [0u16; 4160];
     let mut value = [0u8; 4160];
     cut(
@@ -229,8 +220,7 @@ fn decide_large(
         block,
         marks,
         &mut sum[..],
-        &mut left[..],
-        &mut code[..],
+        &mut tally[..],
         &mut place[..],
         &mut value[..],
         witness,

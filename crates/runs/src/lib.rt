@@ -16,12 +16,11 @@ use shifts::wide;
 
 pub mod parts;
 
-// From the last section down, with the divisor of the differences so far.
-pub fn runs(n: usize, t: usize, shifts: &[u16]) -> [u16; 32]
-    requires { ⌜ Sized n t (now shifts) ⌝ }
-    ensures { λ r. ⌜ RunsOf n t (layout n t (now (shifts .entry))) r ⌝ }
+// From the last section down, with the divisor of the differences so far; into zeros.
+pub fn runs(n: usize, t: usize, shifts: &[u16], r: &mut [u16])
+    requires { ⌜ Sized n t (now shifts) × (now r ≡ replicate 32 0) ⌝ }
+    ensures { λ _. ⌜ RunsOf n t (layout n t (now (shifts .entry))) (now (r .exit)) ⌝ }
 {
-    let mut r = [0u16; 32];
     let last = wide(shifts[n - 1]);
     let mut g = t;
     let mut j = n - 1;
@@ -31,7 +30,6 @@ pub fn runs(n: usize, t: usize, shifts: &[u16]) -> [u16; 32]
         r[j] = (t - g + h) as u16;
         g = h;
     }
-    r
 }
 
 // The greatest common divisor, with no division once g is 1: it then stays 1.

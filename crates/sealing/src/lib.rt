@@ -2,7 +2,7 @@
 // Entries: encode, message_of.
 ghost use mathlib.Core.Path.{_≡_};
 ghost use Prim.Native.Nat.{_*_, _≤_};
-ghost use lib.ListN.{length};
+ghost use lib.ListN.{length, replicate};
 ghost use Rattle.plan.specs.Layout.{layout, messageCount};
 ghost use Rattle.code.specs.Codewords.{Codeword};
 ghost use Rattle.code.specs.Messages.{Carries};
@@ -29,12 +29,6 @@ use settling::zeros::zero_bytes;
 use shifts::wide;
 use sums::syndromes;
 
-// What refuses a call; and the runs, where it passes.
-struct Checked {
-    check: Check,
-    runs: [u16; 32],
-}
-
 // The sum of the first n runs.
 fn run_total(n: usize, runs: &[u16]) -> usize
     requires { ⌜ (n ≤ 32) × (n ≤ length (now runs)) ⌝ }
@@ -49,9 +43,11 @@ fn run_total(n: usize, runs: &[u16]) -> usize
     sum
 }
 
-// A call with a message and a block, and no marks. The message has as many symbols as the runs have places.
-fn check(plan: Plan, message: &[u8], block: &[u8]) -> Checked
-    ensures { λ r. ⌜ Checks plan (now (message .entry)) (now (block .entry)) (r .check) (r .runs) ⌝ }
+// A call with a message and a block, and no marks. The message has as many symbols as the runs have places; where the call passes, the runs are put
+// into zeros.
+fn check(plan: Plan, message: &[u8], block: &[u8], r: &mut [u16]) -> Check
+    requires { ⌜ now r ≡ replicate 32 0 ⌝ }
+    ensures { λ k. ⌜ Checks plan (now (message .entry)) (now (block .entry)) k (now (r .exit)) ⌝ }
 {
     let lent = Lent {
         block: Part::Of(block.len()),
@@ -62,22 +58,13 @@ fn check(plan: Plan, message: &[u8], block: &[u8]) -> Checked
     let n = plan.n;
     let s = plan.shifts;
     match check_call(plan, lent, &message[0..0]) {
-        Check::Stop(x) => Checked {
-            check: Check::Stop(x),
-            runs: [0u16; 32],
-        },
+        Check::Stop(x) => Check::Stop(x),
         Check::Pass => {
-            let r = runs(n, plan.t, &s[..]);
+            runs(n, plan.t, &s[..], &mut r[..]);
             if run_total(n, &r[..]) != message.len() {
-                return Checked {
-                    check: Check::Stop(Refusal::Length),
-                    runs: r,
-                };
+                return Check::Stop(Refusal::Length);
             }
-            Checked {
-                check: Check::Pass,
-                runs: r,
-            }
+            Check::Pass
         }
     }
 }
@@ -98,10 +85,8 @@ pub fn encode(plan: Plan, message: &[u8], block: &mut [u8]) -> Encoding
     let n = plan.n;
     let t = plan.t;
     let s = plan.shifts;
-    let k = check(plan, message, &block[..]);
-    let c = k.check;
-    let r = k.runs;
-    match c {
+    let mut r = [0u16; 32];
+    match check(plan, message, &block[..], &mut r[..]) {
         Check::Pass => {
             seal(n, t, &s[..], &r[..], message, &mut block[..]);
             Encoding::Encoded
@@ -169,10 +154,8 @@ pub fn message_of(plan: Plan, block: &[u8], message: &mut [u8]) -> Reading
     let n = plan.n;
     let t = plan.t;
     let s = plan.shifts;
-    let k = check(plan, &message[..], block);
-    let c = k.check;
-    let r = k.runs;
-    match c {
+    let mut r = [0u16; 32];
+    match check(plan, &message[..], block, &mut r[..]) {
         Check::Pass => {
             if !is_codeword(n, t, &s[..], block) {
                 return Reading::Crossed;

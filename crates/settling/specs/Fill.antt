@@ -4,7 +4,7 @@ use mathlib.Core.Path.{_≡_, refl, sym, _∙_, ap, subst}
 use mathlib.Core.Logic.{_≢_, by-cases}
 use mathlib.Core.Bool.{Bool, true, false, _&&_, true≢false}
 use mathlib.Core.List.{List, [], _∷_, map}
-use Prim.Native.Nat.{ℕ, zero, suc, _+_, _≤_, _<_}
+use Prim.Native.Nat.{ℕ, zero, suc, _+_, _/_, _≤_, _<_}
 use native.Mathlib.Decide.{ℕ-discrete}
 use native.Mathlib.Numerals.{add-one}
 use native.Mathlib.Omega.{arith}
@@ -104,45 +104,45 @@ unfolding allZero
 at-allZero [] h = refl
 at-allZero (x ∷ l) h = rw (eq-eqb x 0 (h 0 (omega arith))) (at-allZero l (λ i k. h (suc i) (omega arith)))
 
--- 1 for a number that is 1, else 0
+-- 1 for a tally that counts exactly one, else 0
 abbrev pub one : ℕ → ℕ
-one x = boolByte (eqb x 1)
+one x = boolByte (eqb (x / 1024) 1)
 
 pub one-at : (l : List ℕ) (i : ℕ) → getD (map one l) i 0 ≡ one (getD l i 0)
 one-at [] i = refl
 one-at (x ∷ l) zero = refl
 one-at (x ∷ l) (suc i) = one-at l i
 
--- a list with no 1
-pub no-ones-at : (l : List ℕ) → allZero (map one l) ≡ true → (i : ℕ) → getD l i 0 ≢ 1
+-- tallies of which none counts exactly one
+pub no-ones-at : (l : List ℕ) → allZero (map one l) ≡ true → (i : ℕ) → getD l i 0 / 1024 ≢ 1
 no-ones-at l e i q =
     let z : one (getD l i 0) ≡ 0 = sym (one-at l i) ∙ allZero-at (map one l) e i in
-    let o : one (getD l i 0) ≡ 1 = rw (eq-eqb (getD l i 0) 1 q) refl in
+    let o : one (getD l i 0) ≡ 1 = rw (eq-eqb (getD l i 0 / 1024) 1 q) refl in
     omega (arith, sym z ∙ o)
 
 -- no row has a sum, and none an erasure left
 unfoldable pub cleanOf : List ℕ → List ℕ → Bool
-cleanOf sum left = allZero sum && allZero left
+cleanOf sum tally = allZero sum && allZero tally
 
-pub clean-zero : (sum left : List ℕ) → cleanOf sum left ≡ true → (r : ℕ) → (getD sum r 0 ≡ 0) × (getD left r 0 ≡ 0)
+pub clean-zero : (sum tally : List ℕ) → cleanOf sum tally ≡ true → (r : ℕ) → (getD sum r 0 ≡ 0) × (getD tally r 0 ≡ 0)
 unfolding cleanOf
-clean-zero sum left e r =
+clean-zero sum tally e r =
     by-test (allZero sum)
-    (λ t. (allZero-at sum t r, allZero-at left (rw t at e) r))
+    (λ t. (allZero-at sum t r, allZero-at tally (rw t at e) r))
     (λ f. absurd (true≢false (sym (rw f at e))))
 
-pub zero-clean : (sum left : List ℕ) → ((r : ℕ) → r < length sum → getD sum r 0 ≡ 0) → ((r : ℕ) → r < length left → getD left r 0 ≡ 0)
-    → cleanOf sum left ≡ true
+pub zero-clean : (sum tally : List ℕ) → ((r : ℕ) → r < length sum → getD sum r 0 ≡ 0) → ((r : ℕ) → r < length tally → getD tally r 0 ≡ 0)
+    → cleanOf sum tally ≡ true
 unfolding cleanOf
-zero-clean sum left h k = rw (at-allZero sum h) (at-allZero left k)
+zero-clean sum tally h k = rw (at-allZero sum h) (at-allZero tally k)
 
-pub not-clean : (sum left : List ℕ) → allZero sum ≡ false → cleanOf sum left ≡ false
+pub not-clean : (sum tally : List ℕ) → allZero sum ≡ false → cleanOf sum tally ≡ false
 unfolding cleanOf
-not-clean sum left f = rw f
+not-clean sum tally f = rw f
 
-pub clean-rest : (sum left : List ℕ) → allZero sum ≡ true → cleanOf sum left ≡ allZero left
+pub clean-rest : (sum tally : List ℕ) → allZero sum ≡ true → cleanOf sum tally ≡ allZero tally
 unfolding cleanOf
-clean-rest sum left t = rw t
+clean-rest sum tally t = rw t
 
 -- acc is the or of the first i numbers, as far as 0 goes
 pub record Gathers (l : List ℕ) (i acc : ℕ) : Type 0 where

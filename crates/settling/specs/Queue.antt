@@ -6,7 +6,7 @@ use mathlib.Core.Path.{_≡_, refl, sym, _∙_, ap, subst}
 use mathlib.Core.Logic.{_≢_, by-cases}
 use mathlib.Core.Bool.{true}
 use mathlib.Core.List.{List, map}
-use Prim.Native.Nat.{ℕ, _+_, _-_, _≤_, _<_}
+use Prim.Native.Nat.{ℕ, _+_, _-_, _/_, _≤_, _<_}
 use native.Mathlib.Nat.{le-antisymm}
 use native.Mathlib.Decide.{ℕ-discrete, decLt}
 use native.Mathlib.Omega.{arith}
@@ -18,30 +18,31 @@ use lib.Seq.{getD-set-same, getD-set-other, getD-take, getD-drop}
 use Rattle.math.specs.Members.{upTo, without}
 use Rattle.math.specs.MembersLaws.{∈-upTo, length-upTo, ∈-without, length-without-lt}
 use Rattle.math.specs.Pigeonhole.{injection-length}
+use Rattle.tables.specs.Picture.{counts}
 use Rattle.settling.specs.Fill.{allZero, one, no-ones-at}
 
 -- row r stands in the queue between the head and the tail
 abbrev pub Standing : List ℕ → ℕ → ℕ → ℕ → Type 0
 Standing queue head tail r = (i : ℕ) × (head ≤ i) × (i < tail) × (getD queue i 0 ≡ r)
 
-pub record Entries (left queue : List ℕ) (rows tail : ℕ) : Type 0 where
+pub record Entries (tally queue : List ℕ) (rows tail : ℕ) : Type 0 where
   pub below : (i : ℕ) → i < tail → getD queue i 0 < rows
   pub apart : (i j : ℕ) → i < tail → j < tail → getD queue i 0 ≡ getD queue j 0 → i ≡ j
-  pub low : (i : ℕ) → i < tail → getD left (getD queue i 0) 0 ≤ 1
+  pub low : (i : ℕ) → i < tail → counts tally (getD queue i 0) ≤ 1
 
-pub record Queued (left queue : List ℕ) (rows head tail : ℕ) : Type 0 where
+pub record Queued (tally queue : List ℕ) (rows head tail : ℕ) : Type 0 where
   pub order : head ≤ tail
-  pub entries : Entries left queue rows tail
-  pub waiting : (r : ℕ) → r < rows → getD left r 0 ≡ 1 → Standing queue head tail r
+  pub entries : Entries tally queue rows tail
+  pub waiting : (r : ℕ) → r < rows → counts tally r ≡ 1 → Standing queue head tail r
 
-pub record Waits (left queue : List ℕ) (rows head tail s : ℕ) : Type 0 where
+pub record Waits (tally queue : List ℕ) (rows head tail s : ℕ) : Type 0 where
   pub order : head ≤ tail
-  pub entries : Entries left queue rows tail
-  pub waiting : (r : ℕ) → r < rows → r ≢ s → getD left r 0 ≡ 1 → Standing queue head tail r
+  pub entries : Entries tally queue rows tail
+  pub waiting : (r : ℕ) → r < rows → r ≢ s → counts tally r ≡ 1 → Standing queue head tail r
   pub inside : s < rows
-  pub fresh : (i : ℕ) → i < tail → getD queue i 0 ≡ s → getD left s 0 ≢ 1
+  pub fresh : (i : ℕ) → i < tail → getD queue i 0 ≡ s → counts tally s ≢ 1
 
--- row s, which has `rest` left, enters at the tail if that is exactly one; what stands past the tail is free
+-- row s, which has `rest` tally, enters at the tail if that is exactly one; what stands past the tail is free
 pub record Enters (queue : List ℕ) (tail s rest : ℕ) (queue' : List ℕ) (tail' : ℕ) : Type 0 where
   pub enters : rest ≡ 1 → (queue' ≡ set queue tail s) × (tail' ≡ tail + 1)
   pub stays : rest ≢ 1 → ((i : ℕ) → i < tail → getD queue' i 0 ≡ getD queue i 0) × (tail' ≡ tail)
@@ -57,14 +58,14 @@ stored queue tail s rest = record {
   stays = λ n. rw (ne-eqb rest 1 n) ((λ i h. getD-set-other queue tail i s 0 (λ e. omega arith)), omega arith);
 }
 
-pub queued-none : (left queue : List ℕ) → Queued left queue 0 0 0
-queued-none left queue = record {
+pub queued-none : (tally queue : List ℕ) → Queued tally queue 0 0 0
+queued-none tally queue = record {
   order = omega arith;
   entries = record { below = λ i h. absurd (omega arith); apart = λ i j h k e. absurd (omega arith); low = λ i h. absurd (omega arith) };
   waiting = λ r h e. absurd (omega arith);
 }
 
-pub full : {left queue : List ℕ} {rows head tail : ℕ} → Queued left queue rows head tail → tail ≤ rows
+pub full : {tally queue : List ℕ} {rows head tail : ℕ} → Queued tally queue rows head tail → tail ≤ rows
 full {queue} {rows} {tail} q =
     omega (
       arith,
@@ -72,7 +73,7 @@ full {queue} {rows} {tail} q =
       injection-length tail (λ i. getD queue i 0) (upTo rows) (λ i h. ∈-upTo (q .entries .below i h)) (q .entries .apart),
     )
 
-pub room : {left queue : List ℕ} {rows head tail s : ℕ} → Waits left queue rows head tail s → getD left s 0 ≡ 1 → tail < rows
+pub room : {tally queue : List ℕ} {rows head tail s : ℕ} → Waits tally queue rows head tail s → counts tally s ≡ 1 → tail < rows
 room {queue} {rows} {tail} {s} q e =
     omega (
       arith,
@@ -85,15 +86,15 @@ room {queue} {rows} {tail} {s} q e =
 -- ---- the rows are scanned from 0 on
 
 -- what sweeping the rows from i up to j requires
-pub record Sweepable (left queue : List ℕ) (i j tail : ℕ) : Type 0 where
-  pub queued : Queued left queue i 0 tail
+pub record Sweepable (tally queue : List ℕ) (i j tail : ℕ) : Type 0 where
+  pub queued : Queued tally queue i 0 tail
   pub order : i ≤ j
-  pub left-long : j ≤ length left
+  pub tally-long : j ≤ length tally
   pub queue-long : j ≤ length queue
   pub few : j ≤ 4096
 
 -- the rows below i are scanned, row i is next
-pub seeds : {left queue : List ℕ} {i tail : ℕ} → Queued left queue i 0 tail → Waits left queue (i + 1) 0 tail i
+pub seeds : {tally queue : List ℕ} {i tail : ℕ} → Queued tally queue i 0 tail → Waits tally queue (i + 1) 0 tail i
 seeds q = record {
   order = omega arith;
   entries = record { below = λ k h. omega (arith, q .entries .below k h); apart = q .entries .apart; low = q .entries .low };
@@ -102,7 +103,7 @@ seeds q = record {
   fresh = λ k h e. absurd (omega (arith, q .entries .below k h));
 }
 
-module _ {left queue : List ℕ} {rows head tail s : ℕ} (q : Waits left queue rows head tail s) (l : tail < length queue) (one : getD left s 0 ≡ 1) where
+module _ {tally queue : List ℕ} {rows head tail s : ℕ} (q : Waits tally queue rows head tail s) (l : tail < length queue) (one : counts tally s ≡ 1) where
   last : getD (set queue tail s) tail 0 ≡ s
   last = getD-set-same queue tail s 0 l
 
@@ -117,7 +118,7 @@ module _ {left queue : List ℕ} {rows head tail s : ℕ} (q : Waits left queue 
       (λ e. rw (e, last) new)
       (λ n. let k : i < tail = omega arith in rw (early i k) (old i k))
 
-  pushed : Queued left (set queue tail s) rows head (tail + 1)
+  pushed : Queued tally (set queue tail s) rows head (tail + 1)
   pushed = record {
     order = omega (arith, q .order);
     entries = record {
@@ -127,7 +128,7 @@ module _ {left queue : List ℕ} {rows head tail s : ℕ} (q : Waits left queue 
           (λ i h. each (λ j r. getD queue i 0 ≡ r → i ≡ j) (λ j k. q .entries .apart i j h k) (λ e. absurd (q .fresh i h e one)) j k)
           (each (λ j r. s ≡ r → tail ≡ j) (λ j k e. absurd (q .fresh j k (sym e) one)) (λ e. refl) j k)
           i h;
-      low = each (λ i r. getD left r 0 ≤ 1) (q .entries .low) (omega arith);
+      low = each (λ i r. counts tally r ≤ 1) (q .entries .low) (omega arith);
     };
     waiting = λ r h e.
         by-cases (ℕ-discrete r s)
@@ -136,8 +137,8 @@ module _ {left queue : List ℕ} {rows head tail s : ℕ} (q : Waits left queue 
   }
 
 -- what stands past the tail is free
-beyond : {left queue queue' : List ℕ} {rows head tail : ℕ} → Queued left queue rows head tail
-    → ((i : ℕ) → i < tail → getD queue' i 0 ≡ getD queue i 0) → Queued left queue' rows head tail
+beyond : {tally queue queue' : List ℕ} {rows head tail : ℕ} → Queued tally queue rows head tail
+    → ((i : ℕ) → i < tail → getD queue' i 0 ≡ getD queue i 0) → Queued tally queue' rows head tail
 beyond q same = record {
   order = q .order;
   entries = record {
@@ -148,18 +149,18 @@ beyond q same = record {
   waiting = λ r h e. let w = q .waiting r h e in (w .0, w .1, w .2, same (w .0) (w .2) ∙ w .3);
 }
 
--- the rows from i up to j are passed over, none of them having exactly one left
-pub skipped : {left queue : List ℕ} {i tail : ℕ} (j : ℕ) → Queued left queue i 0 tail → i ≤ j
-    → ((r : ℕ) → i ≤ r → r < j → getD left r 0 ≢ 1) → Queued left queue j 0 tail
-skipped {left} {i = i} j q l n = record {
+-- the rows from i up to j are passed over, none of them having exactly one tally
+pub skipped : {tally queue : List ℕ} {i tail : ℕ} (j : ℕ) → Queued tally queue i 0 tail → i ≤ j
+    → ((r : ℕ) → i ≤ r → r < j → counts tally r ≢ 1) → Queued tally queue j 0 tail
+skipped {tally} {i = i} j q l n = record {
   order = q .order;
   entries = record { below = λ k h. omega (arith, q .entries .below k h); apart = q .entries .apart; low = q .entries .low };
   waiting = λ r h e. by-cases (decLt r i) (λ k. q .waiting r k e) (λ k. absurd (n r (omega arith) h e));
 }
 
-pub entered : {left queue : List ℕ} {rows head tail s rest : ℕ} {queue' : List ℕ} {tail' : ℕ} → Waits left queue rows head tail s
-    → (getD left s 0 ≡ 1 → tail < length queue) → rest ≡ getD left s 0 → Enters queue tail s rest queue' tail' → Queued left queue' rows head tail'
-entered {left} {queue} {rows} {head} {tail} {s} {rest} {queue'} {tail'} q l same t =
+pub entered : {tally queue : List ℕ} {rows head tail s rest : ℕ} {queue' : List ℕ} {tail' : ℕ} → Waits tally queue rows head tail s
+    → (counts tally s ≡ 1 → tail < length queue) → rest ≡ counts tally s → Enters queue tail s rest queue' tail' → Queued tally queue' rows head tail'
+entered {tally} {queue} {rows} {head} {tail} {s} {rest} {queue'} {tail'} q l same t =
     by-cases (ℕ-discrete rest 1)
     (λ one. let e = t .enters one in let k = sym same ∙ one in rw (e .0, e .1) (pushed q (l k) k))
     (λ n.
@@ -169,89 +170,90 @@ entered {left} {queue} {rows} {head} {tail} {s} {rest} {queue'} {tail'} q l same
     (record {
       order = q .order;
       entries = q .entries;
-      waiting = λ r h k. q .waiting r h (λ m. n (same ∙ subst (λ r. getD left r 0 ≡ 1) m k)) k;
+      waiting = λ r h k. q .waiting r h (λ m. n (same ∙ subst (λ r. counts tally r ≡ 1) m k)) k;
     })
     (e .0)))
 
-module _ {left queue : List ℕ} {i j tail : ℕ} (w : Sweepable left queue i j tail) where
+module _ {tally queue : List ℕ} {i j tail : ℕ} (w : Sweepable tally queue i j tail) where
   pub sweep-room : i < j → tail < length queue
   sweep-room h = omega (arith, full (w .queued), w .queue-long)
 
-  pub sweep-more : i < j → Sweepable left (set queue tail i) (i + 1) j (tail + boolByte (eqb (getD left i 0) 1))
-  sweep-more h = record {
-    queued = entered (seeds (w .queued)) (λ _. sweep-room h) refl (stored queue tail i (getD left i 0));
+  pub sweep-more : i < j → {rest : ℕ} → rest ≡ counts tally i → Sweepable tally (set queue tail i) (i + 1) j (tail + boolByte (eqb rest 1))
+  sweep-more h {rest} e = record {
+    queued = entered (seeds (w .queued)) (λ _. sweep-room h) e (stored queue tail i rest);
     order = omega arith;
-    left-long = w .left-long;
+    tally-long = w .tally-long;
     queue-long = rw (length-set queue tail i) (w .queue-long);
     few = w .few;
   }
 
-  pub sweep-end : j ≤ i → Queued left queue j 0 tail
-  sweep-end h = subst (λ i. Queued left queue i 0 tail) (le-antisymm (w .order) h) (w .queued)
+  pub sweep-end : j ≤ i → Queued tally queue j 0 tail
+  sweep-end h = subst (λ i. Queued tally queue i 0 tail) (le-antisymm (w .order) h) (w .queued)
 
   -- rows of which none has exactly one left are passed at once
-  pub sweep-none : allZero (map one (take (j - i) (drop i left))) ≡ true → Queued left queue j 0 tail
+  pub sweep-none : allZero (map one (take (j - i) (drop i tally))) ≡ true → Queued tally queue j 0 tail
+  unfolding counts
   sweep-none z = skipped j (w .queued) (w .order) none
     where
-      none : (r : ℕ) → i ≤ r → r < j → getD left r 0 ≢ 1
+      none : (r : ℕ) → i ≤ r → r < j → counts tally r ≢ 1
       none r l h q =
           let k : r - i < j - i = omega arith in
           let m : i + (r - i) ≡ r = omega arith in
-          let e : getD (take (j - i) (drop i left)) (r - i) 0 ≡ getD left (i + (r - i)) 0 = getD-take (j - i) (drop i left) (r - i) 0 k ∙ getD-drop i left (r - i) 0 in
-          no-ones-at (take (j - i) (drop i left)) z (r - i) (e ∙ ap (λ y. getD left y 0) m ∙ q)
+          let e : getD (take (j - i) (drop i tally)) (r - i) 0 ≡ getD tally (i + (r - i)) 0 = getD-take (j - i) (drop i tally) (r - i) 0 k ∙ getD-drop i tally (r - i) 0 in
+          no-ones-at (take (j - i) (drop i tally)) z (r - i) (ap (λ y. y / 1024) (e ∙ ap (λ y. getD tally y 0) m) ∙ q)
 
   -- sweeping the rows up to k first
-  pub sweep-part : {k : ℕ} → i ≤ k → k ≤ j → Sweepable left queue i k tail
+  pub sweep-part : {k : ℕ} → i ≤ k → k ≤ j → Sweepable tally queue i k tail
   sweep-part l h = record {
     queued = w .queued;
     order = l;
-    left-long = omega (arith, w .left-long);
+    tally-long = omega (arith, w .tally-long);
     queue-long = omega (arith, w .queue-long);
     few = omega (arith, w .few);
   }
 
-  pub sweep-rest : {queue' : List ℕ} {k tail' : ℕ} → k ≤ j → Queued left queue' k 0 tail' → length queue' ≡ length queue → Sweepable left queue' k j tail'
-  sweep-rest h q l = record { queued = q; order = h; left-long = w .left-long; queue-long = omega (arith, w .queue-long); few = w .few }
+  pub sweep-rest : {queue' : List ℕ} {k tail' : ℕ} → k ≤ j → Queued tally queue' k 0 tail' → length queue' ≡ length queue → Sweepable tally queue' k j tail'
+  sweep-rest h q l = record { queued = q; order = h; tally-long = w .tally-long; queue-long = omega (arith, w .queue-long); few = w .few }
 
--- the head's row has not one left: it is passed over
-pub passed : {left queue : List ℕ} {rows head tail : ℕ} → Queued left queue rows head tail → head < tail
-    → getD left (getD queue head 0) 0 ≢ 1 → Queued left queue rows (head + 1) tail
-passed {left} {queue} {head} q h n = record {
+-- the head's row has not one tally: it is passed over
+pub passed : {tally queue : List ℕ} {rows head tail : ℕ} → Queued tally queue rows head tail → head < tail
+    → counts tally (getD queue head 0) ≢ 1 → Queued tally queue rows (head + 1) tail
+passed {tally} {queue} {head} q h n = record {
   order = omega arith;
   entries = q .entries;
   waiting = λ r k e.
       let w = q .waiting r k e in
-      let m : head ≢ w .0 = λ z. n (ap (λ i. getD left (getD queue i 0) 0) z ∙ ap (λ r. getD left r 0) (w .3) ∙ e) in
+      let m : head ≢ w .0 = λ z. n (ap (λ i. counts tally (getD queue i 0)) z ∙ ap (λ r. counts tally r) (w .3) ∙ e) in
       (w .0, omega (arith, w .1, m), w .2, w .3);
 }
 
 -- how the counts change when the one erasure of row a is settled, b being its other row
-pub record Lowers (left left' : List ℕ) (a b : ℕ) : Type 0 where
-  pub none : getD left' a 0 ≡ 0
-  pub less : getD left b 0 ≡ getD left' b 0 + 1
-  pub rest : (r : ℕ) → r ≢ a → r ≢ b → getD left' r 0 ≡ getD left r 0
+pub record Lowers (tally tally' : List ℕ) (a b : ℕ) : Type 0 where
+  pub none : counts tally' a ≡ 0
+  pub less : counts tally b ≡ counts tally' b + 1
+  pub rest : (r : ℕ) → r ≢ a → r ≢ b → counts tally' r ≡ counts tally r
 
 -- the head's row is settled, and its other row may enter
-pub taken : {left queue left' : List ℕ} {rows head tail b : ℕ} → Queued left queue rows head tail → head < tail → b < rows
-    → Lowers left left' (getD queue head 0) b → Waits left' queue rows (head + 1) tail b
-taken {left} {queue} {left'} {rows} {head} {tail} {b} q h l d = record {
+pub taken : {tally queue tally' : List ℕ} {rows head tail b : ℕ} → Queued tally queue rows head tail → head < tail → b < rows
+    → Lowers tally tally' (getD queue head 0) b → Waits tally' queue rows (head + 1) tail b
+taken {tally} {queue} {tally'} {rows} {head} {tail} {b} q h l d = record {
   order = omega arith;
   entries = record { below = q .entries .below; apart = q .entries .apart; low = λ i k. omega (arith, fall (getD queue i 0), q .entries .low i k) };
   waiting = λ r k n e.
-      let m : r ≢ getD queue head 0 = λ z. omega (arith, d .none, sym (ap (λ r. getD left' r 0) z) ∙ e) in
+      let m : r ≢ getD queue head 0 = λ z. omega (arith, d .none, sym (ap (λ r. counts tally' r) z) ∙ e) in
       let w = q .waiting r k (sym (d .rest r m n) ∙ e) in
       let z : head ≢ w .0 = λ z. m (sym (w .3) ∙ ap (λ i. getD queue i 0) (sym z)) in
       (w .0, omega (arith, w .1, z), w .2, w .3);
   inside = l;
-  fresh = λ i k e one. omega (arith, d .less, one, subst (λ r. getD left r 0 ≤ 1) e (q .entries .low i k));
+  fresh = λ i k e one. omega (arith, d .less, one, subst (λ r. counts tally r ≤ 1) e (q .entries .low i k));
 }
   where
-    fall : (r : ℕ) → getD left' r 0 ≤ getD left r 0
+    fall : (r : ℕ) → counts tally' r ≤ counts tally r
     fall r =
         by-cases (ℕ-discrete r (getD queue head 0))
         (λ e. rw e (omega (arith, d .none)))
         (λ n. by-cases (ℕ-discrete r b) (λ e. rw e (omega (arith, d .less))) (λ m. omega (arith, d .rest r n m)))
 
--- at the end no row has exactly one left
-pub emptied : {left queue : List ℕ} {rows head tail : ℕ} → Queued left queue rows head tail → tail ≤ head → (r : ℕ) → r < rows → getD left r 0 ≢ 1
+-- at the end no row has exactly one tally
+pub emptied : {tally queue : List ℕ} {rows head tail : ℕ} → Queued tally queue rows head tail → tail ≤ head → (r : ℕ) → r < rows → counts tally r ≢ 1
 emptied q h r k e = let w = q .waiting r k e in omega (arith, w .1, w .2)

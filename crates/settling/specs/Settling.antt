@@ -1,30 +1,28 @@
 -- Settling one erasure: what a row with one erasure left says, and the list of settled places.
--- Main results: single (its only place, read off the code), row-forces (T1: the row's sum is what every codeword that agrees adds there),
+-- Main results: single (its only place), row-forces (T1: the row's sum is what every codeword that agrees adds there),
 -- touched-two (the tables after), settles-none and settles-more.
 use mathlib.Core.Path.{_≡_, refl, sym, _∙_, ap, subst}
 use mathlib.Core.Logic.{_≢_, _⊎_, ⊎-elim, by-cases}
-use mathlib.Core.Bool.{true≢false}
 use mathlib.Core.List.{List, [], _∷_, List·Memᴰ·eq-of-singleton, Memᴰ·cast}
 use mathlib.Core.List.{List·Memᴰ·head as here}
-use Prim.Native.Nat.{ℕ, _+_, _*_, _/_, _%_, _≤_, _<_}
+use Prim.Native.Nat.{ℕ, _+_, _*_, _<_}
+use native.Mathlib.Nat.{add-zero}
 use native.Mathlib.Decide.{ℕ-discrete}
 use native.Mathlib.Omega.{arith}
 use lib.ListN.{length, getD, set, length-set}
 use lib.Seq.{getD-set-same, getD-set-other}
 use Rattle.math.specs.Members.{_∈_, without}
-use Rattle.math.specs.MembersLaws.{by-test, ∈-without, without-∈}
-use Rattle.math.specs.Xor.{_⊕_, ⊕-zero, ⊕-self-left}
-use Rattle.math.specs.Sums.{xorOver, only}
-use Rattle.math.specs.SumsLaws.{only-true, only-false, only-lt, xorOver-lt, xorOver-split}
-use Rattle.plan.specs.Layout.{Layout, Valid, placeOf}
+use Rattle.math.specs.MembersLaws.{∈-without, without-∈}
+use Rattle.math.specs.Xor.{_⊕_, ⊕-self-left}
+use Rattle.math.specs.Sums.{xorOver, sumOver, only}
+use Rattle.math.specs.SumsLaws.{only-lt, xorOver-lt, xorOver-split}
+use Rattle.plan.specs.Layout.{Layout}
 use Rattle.code.specs.Places.{places, Meets, meets}
 use Rattle.code.specs.Codewords.{syndrome}
 use Rattle.code.specs.Checks.{update, rowPlaces}
-use Rattle.code.specs.Laws.Basics.{place-split, meets-true, true-meets}
 use Rattle.code.specs.Laws.Settle.{update-same, update-other, ∈-rowPlaces, row-sum, distinct-row, other-places, row-forced}
-use Rattle.tables.specs.Picture.{codeOf, onRow, Remaining, Settles}
+use Rattle.tables.specs.Picture.{weight, onRow, Counted, Settles}
 use Rattle.tables.specs.PictureLaws.{Touched}
-use Rattle.tables.specs.Codes.{code-section, code-offset}
 use Rattle.tables.specs.StuckLaws.{∈-onRow, onRow-∈}
 
 pub syndrome-byte : (L : Layout) (u : ℕ → ℕ) (r : ℕ) → ((c : ℕ) → u c < 256) → syndrome L u r < 256
@@ -32,50 +30,38 @@ unfolding syndrome
 syndrome-byte L u r h =
     xorOver-lt 8 (places L) (λ c. only (meets L c r) (u c)) (λ c m. only-lt (meets L c r) (h c) (omega arith))
 
--- c is the only erasure on row r, and k is its code
-pub record Single (L : Layout) (E : List ℕ) (r k c : ℕ) : Type 0 where
+-- c is the only erasure on row r, and v is its weight
+pub record Single (L : Layout) (E : List ℕ) (r v c : ℕ) : Type 0 where
   pub member : c ∈ E
   pub inside : c ∈ places L
   pub meet : Meets L c r
   pub sole : (d : ℕ) → d ∈ E → Meets L d r → d ≡ c
-  pub packed : codeOf (L .t) c ≡ k
-  pub section : k / 2048 ≡ c / L .t
-  pub offset : k % 2048 ≡ c % L .t
-  pub number : placeOf (L .t) (k / 2048) (k % 2048) ≡ c
+  pub weighs : v ≡ weight (L .t) c
 
 one-member : (l : List ℕ) → length l ≡ 1 → (c : ℕ) × (l ≡ c ∷ [])
 one-member [] e = absurd (omega arith)
 one-member (c ∷ []) e = (c, refl)
 one-member (c ∷ (d ∷ l)) e = absurd (omega arith)
 
-xorOver-single : (c : ℕ) (f : ℕ → ℕ) → xorOver (c ∷ []) f ≡ f c
-unfolding xorOver
-xorOver-single c f = ⊕-zero (f c)
+sumOver-single : (c : ℕ) (f : ℕ → ℕ) → sumOver (c ∷ []) f ≡ f c
+unfolding sumOver
+sumOver-single c f = add-zero (f c)
 
-single-of : (L : Layout) → Valid L → L .t ≤ 2048 → {E left code : List ℕ} → Remaining L E left code
-    → {r : ℕ} → r < 2 * L .t → (c : ℕ) → onRow L E r ≡ c ∷ [] → Single L E r (getD code r 0) c
-single-of L ok g {E} {code = code} p {r} h c o =
-    let k : codeOf (L .t) c ≡ getD code r 0 = sym (p .codes r h (omega (arith, ap length o)) ∙ ap (λ K. xorOver K (codeOf (L .t))) o ∙ xorOver-single c (codeOf (L .t))) in
-    let a : getD code r 0 / 2048 ≡ c / L .t = ap (λ x. x / 2048) (sym k) ∙ code-section (L .t) (ok .positive) g c in
-    let b : getD code r 0 % 2048 ≡ c % L .t = ap (λ x. x % 2048) (sym k) ∙ code-offset (L .t) (ok .positive) g c in
-    let f = onRow-∈ L E r (subst (λ l. c ∈ l) (sym o) (here refl)) in
-    record {
-      member = f .0;
-      inside = p .erased .inside c (f .0);
-      meet = f .1;
-      sole = λ d m y. List·Memᴰ·eq-of-singleton (subst (λ l. d ∈ l) o (∈-onRow L m y));
-      packed = k;
-      section = a;
-      offset = b;
-      number = rw (a, b) (place-split (L .t) c);
-    }
-
-pub single : (L : Layout) → Valid L → L .t ≤ 2048 → {E left code : List ℕ} → Remaining L E left code
-    → {r : ℕ} → r < 2 * L .t → getD left r 0 ≡ 1 → Single L E r (getD code r 0) (placeOf (L .t) (getD code r 0 / 2048) (getD code r 0 % 2048))
-single L ok g {E} {code = code} p {r} h e =
-    let o = one-member (onRow L E r) (sym (p .lefts r h) ∙ e) in
-    let s = single-of L ok g p h (o .0) (o .1) in
-    subst (λ c. Single L E r (getD code r 0) c) (sym (s .number)) s
+pub single : (L : Layout) {E tally : List ℕ} → Counted L E tally → {r : ℕ} → r < 2 * L .t → length (onRow L E r) ≡ 1
+    → (c : ℕ) × Single L E r (getD tally r 0) c
+single L {E} p {r} h e =
+    let o = one-member (onRow L E r) e in
+    let c : ℕ = o .0 in
+    let f = onRow-∈ L E r (subst (λ l. c ∈ l) (sym (o .1)) (here refl)) in (
+      c,
+      record {
+        member = f .0;
+        inside = p .erased .inside c (f .0);
+        meet = f .1;
+        sole = λ d m y. List·Memᴰ·eq-of-singleton (subst (λ l. d ∈ l) (o .1) (∈-onRow L m y));
+        weighs = p .tallies r h ∙ ap (λ l. sumOver l (weight (L .t))) (o .1) ∙ sumOver-single c (weight (L .t));
+      },
+    )
 
 -- a table that is stored to at a and b, the two rows of c; at a the store gives 0
 pub touched-two : (L : Layout) (c : ℕ) (g : ℕ → ℕ) {old new : List ℕ} (a b : ℕ) → a ≢ b → a < length old → b < length old
@@ -94,24 +80,10 @@ touched-two L c g {old} a b n la lb ma mb both z q =
           ∙ getD-set-other old a r 0 0 (λ e. k (subst (Meets L c) (sym e) ma));
     })
 
--- the codes stored to at b alone, where a and b are the two rows of c
-pub coded-other : (L : Layout) (c k : ℕ) (code code' : List ℕ) (a b : ℕ) → b < length code → Meets L c b
-    → ((s : ℕ) → Meets L c s → (s ≡ a) ⊎ (s ≡ b)) → code' ≡ set code b (getD code b 0 ⊕ k)
-    → (r : ℕ) → r ≢ a → getD code' r 0 ≡ getD code r 0 ⊕ only (meets L c r) k
-coded-other L c k code code' a b lb mb both q r n =
-    let v = getD code b 0 ⊕ k in
-    ap (λ l. getD l r 0) q
-    ∙ by-test (meets L c r)
-    (λ e. ⊎-elim
-    (λ i. absurd (n i))
-    (λ i. rw (only-true k e) (ap (λ z. getD (set code b v) z 0) i ∙ getD-set-same code b v 0 lb ∙ ap (λ z. getD code z 0 ⊕ k) (sym i)))
-    (both r (true-meets L c r e)))
-    (λ e. rw (only-false k e) (getD-set-other code b r v 0 (λ i. true≢false (sym (meets-true L c (subst (Meets L c) (sym i) mb)) ∙ e)) ∙ sym (⊕-zero (getD code r 0))))
-
 -- T1: the sum of a row with one erasure left is what every codeword that agrees adds there
-pub row-forces : (L : Layout) {E : List ℕ} (u w : ℕ → ℕ) {r k c : ℕ} → Single L E r k c → syndrome L w r ≡ 0
+pub row-forces : (L : Layout) {E : List ℕ} (u w : ℕ → ℕ) {r v c : ℕ} → Single L E r v c → syndrome L w r ≡ 0
     → ((d : ℕ) → d ∈ places L → ¬ (d ∈ E) → w d ≡ u d) → w c ≡ u c ⊕ syndrome L u r
-row-forces L {E} u w {r} {k} {c} s e h =
+row-forces L {E} u w {r} {v} {c} s e h =
     let sole : (d : ℕ) → d ∈ places L → Meets L d r → d ∈ E → d ≡ c = λ d _ y m. s .sole d m y in
     let rest = xorOver (without c (rowPlaces L r)) u in
     let parts : syndrome L u r ≡ u c ⊕ rest = sym (row-sum L u r) ∙ xorOver-split u (distinct-row L r) (∈-rowPlaces L (s .inside) (s .meet)) in

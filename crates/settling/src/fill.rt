@@ -2,6 +2,7 @@
 ghost use mathlib.Core.Path.{_≡_};
 ghost use Rattle.settling.specs.Fill.{filled, Fillable, cleanOf};
 use crate::zeros::zero_bytes;
+use crate::zeros::zero_words;
 
 // The first k values are added at the first k places.
 pub fn fill(block: &mut [u8], place: &[u16], value: &[u8], k: usize)
@@ -17,11 +18,11 @@ pub fn fill(block: &mut [u8], place: &[u16], value: &[u8], k: usize)
 }
 
 // No row has a sum, and none an erasure left.
-pub fn clean(sum: &[u8], left: &[u8]) -> bool
-    ensures { λ r. ⌜ r ≡ cleanOf (now (sum .entry)) (now (left .entry)) ⌝ }
+pub fn clean(sum: &[u8], tally: &[u16]) -> bool
+    ensures { λ r. ⌜ r ≡ cleanOf (now (sum .entry)) (now (tally .entry)) ⌝ }
 {
     if !zero_bytes(sum) {
         return false;
     }
-    zero_bytes(left)
+    zero_words(tally)
 }

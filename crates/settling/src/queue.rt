@@ -7,7 +7,7 @@ use crate::zeros::no_ones;
 
 // A row enters at the tail if the number that it has left is exactly one; gives the new tail. By a branch: in chains the next row nearly always
 // enters, and the processor runs ahead.
-pub fn enter(queue: &mut [u16], tail: usize, row: usize, rest: u8) -> usize
+pub fn enter(queue: &mut [u16], tail: usize, row: usize, rest: u16) -> usize
     requires { ⌜ (row < 4096) × (rest ≡ 1 → tail < length (now queue)) ⌝ }
     ensures { λ r. ⌜ Enters (now (queue .entry)) tail row rest (now (queue .exit)) r ⌝ }
 {
@@ -19,7 +19,7 @@ pub fn enter(queue: &mut [u16], tail: usize, row: usize, rest: u8) -> usize
 }
 
 // The same with no branch on what is left, where that would be hard to foresee: the row is stored in any case.
-pub fn enter_stored(queue: &mut [u16], tail: usize, row: usize, rest: u8) -> usize
+pub fn enter_stored(queue: &mut [u16], tail: usize, row: usize, rest: u16) -> usize
     requires { ⌜ (row < 4096) × (rest ≡ 1 → tail < length (now queue)) ⌝ }
     ensures { λ r. ⌜ Enters (now (queue .entry)) tail row rest (now (queue .exit)) r ⌝ }
 {
@@ -32,43 +32,43 @@ pub fn enter_stored(queue: &mut [u16], tail: usize, row: usize, rest: u8) -> usi
 
 // The rows from `from` up to `to` enter if they have exactly one left. Each is stored at the tail, and the tail moves on if it enters:
 // no branch, since which rows enter is hard to foresee.
-fn sweep(left: &[u8], queue: &mut [u16], from: usize, to: usize, tail: usize) -> usize
-    requires { ⌜ Sweepable (now left) (now queue) from to tail ⌝ }
-    ensures { λ r. ⌜ Queued (now (left .entry)) (now (queue .exit)) to 0 r ⌝ }
+fn sweep(tally: &[u16], queue: &mut [u16], from: usize, to: usize, tail: usize) -> usize
+    requires { ⌜ Sweepable (now tally) (now queue) from to tail ⌝ }
+    ensures { λ r. ⌜ Queued (now (tally .entry)) (now (queue .exit)) to 0 r ⌝ }
 {
     let mut end = tail;
     let mut r = from;
     while r < to {
         queue[end] = r as u16;
-        end += (left[r] == 1) as usize;
+        end += (tally[r] / 1024 == 1) as usize;
         r += 1;
     }
     end
 }
 
 // The same of eight rows, passed at once if none has exactly one left.
-fn sweep_group(left: &[u8], queue: &mut [u16], from: usize, tail: usize) -> usize
-    requires { ⌜ Sweepable (now left) (now queue) from (from + 8) tail ⌝ }
-    ensures { λ r. ⌜ Queued (now (left .entry)) (now (queue .exit)) (from + 8) 0 r ⌝ }
+fn sweep_group(tally: &[u16], queue: &mut [u16], from: usize, tail: usize) -> usize
+    requires { ⌜ Sweepable (now tally) (now queue) from (from + 8) tail ⌝ }
+    ensures { λ r. ⌜ Queued (now (tally .entry)) (now (queue .exit)) (from + 8) 0 r ⌝ }
 {
     let to = from + 8;
-    if no_ones(&left[from..to]) {
+    if no_ones(&tally[from..to]) {
         return tail;
     }
-    sweep(left, &mut queue[..], from, to, tail)
+    sweep(tally, &mut queue[..], from, to, tail)
 }
 
 // Every row with exactly one left enters, in rising order; gives the tail.
-pub fn seed(t: usize, left: &[u8], queue: &mut [u16]) -> usize
-    requires { ⌜ (t ≤ 2048) × (length (now left) ≡ 2 * t) × (length (now queue) ≡ 2 * t) ⌝ }
-    ensures { λ r. ⌜ Queued (now (left .entry)) (now (queue .exit)) (2 * t) 0 r ⌝ }
+pub fn seed(t: usize, tally: &[u16], queue: &mut [u16]) -> usize
+    requires { ⌜ (t ≤ 2048) × (length (now tally) ≡ 2 * t) × (length (now queue) ≡ 2 * t) ⌝ }
+    ensures { λ r. ⌜ Queued (now (tally .entry)) (now (queue .exit)) (2 * t) 0 r ⌝ }
 {
     let rows = 2 * t;
     let mut tail = 0;
     let mut r = 0;
     while r + 8 <= rows {
-        tail = sweep_group(left, &mut queue[..], r, tail);
+        tail = sweep_group(tally, &mut queue[..], r, tail);
         r += 8;
     }
-    sweep(left, &mut queue[..], r, rows, tail)
+    sweep(tally, &mut queue[..], r, rows, tail)
 }

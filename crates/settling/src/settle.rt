@@ -3,89 +3,63 @@
 ghost use mathlib.Core.Path.{_≡_};
 ghost use lib.ListN.{getD};
 ghost use Rattle.plan.specs.Layout.{layout};
-ghost use Rattle.settling.specs.Takes.{Within, Beside, Rows, Removes, One, Takes};
+ghost use Rattle.tables.specs.Picture.{counts};
+ghost use Rattle.settling.specs.Takes.{Rows, Removes, One, Takes};
 use plan::Place;
-use tables::packed::Packed;
+use tables::rows::beside;
 
 // A settled place, what is added to its symbol, the row that it met beside the one it was settled by, and the number of erasures left there.
 pub struct Settled {
     pub place: Place,
     pub value: u8,
     pub other: usize,
-    pub rest: u8,
+    pub rest: u16,
 }
 
-// The row that a place meets beside the given one. For the bottom row the test only decides whether t is added: the outcome is hard to foresee, and
-// of this form no branch is made.
-pub(crate) fn beside(n: usize, t: usize, shifts: &[u16], packed: Packed, row: usize) -> usize
-    requires { ⌜ Within n t (now shifts) (packed .0) ⌝ }
-    ensures { λ r. ⌜ Beside t (now (shifts .entry)) (packed .0) row r ⌝ }
-{
-    let k = packed.offset();
-    if t <= row {
-        return k;
-    }
-    let j = packed.section();
-    let p = shifts[j] as usize;
-    let turned = k + (t - p);
-    if turned < t {
-        return t + turned;
-    }
-    turned
-}
-
-// Takes a place out of its two rows. The first has no other left: its code no longer counts. Gives the number left on the second.
+// Takes a place of weight w out of its two rows, the first of which has no other. Gives the number left on the second.
 pub(crate) fn remove(
     sum: &mut [u8],
-    left: &mut [u8],
-    code: &mut [u16],
+    tally: &mut [u16],
     row: usize,
     other: usize,
-    packed: Packed,
+    w: u16,
     x: u8,
-) -> u8
-    requires { ⌜ Rows (now sum) (now left) (now code) row other ⌝ }
-    ensures { λ r. ⌜ Removes (now (sum .entry)) (now (left .entry)) (now (code .entry)) (now (sum .exit)) (now (left .exit)) (now (code .exit)) row other (packed .0) x r ⌝ }
+) -> u16
+    requires { ⌜ Rows (now sum) (now tally) row other w ⌝ }
+    ensures { λ r. ⌜ Removes (now (sum .entry)) (now (tally .entry)) (now (sum .exit)) (now (tally .exit)) row other w x r ⌝ }
 {
-    left[row] = 0;
+    tally[row] = 0;
     sum[row] = 0;
-    code[other] = code[other] ^ packed.0;
-    let rest = left[other] - 1;
-    left[other] = rest;
+    let rest = tally[other] - w;
+    tally[other] = rest;
     sum[other] = sum[other] ^ x;
-    rest
+    rest / 1024
 }
 
+// The place on the row of the section that the row's tally says.
 pub fn settle(
     n: usize,
     t: usize,
     shifts: &[u16],
     sum: &mut [u8],
-    left: &mut [u8],
-    code: &mut [u16],
+    tally: &mut [u16],
     row: usize,
 ) -> Settled
-    requires { ⌜ One n t (now shifts) (now sum) (now left) (now code) row ⌝ }
-    ensures { λ r. ⌜ Takes (layout n t (now (shifts .entry))) (now (sum .entry)) (now (left .entry)) (now (code .entry)) (now (sum .exit)) (now (left .exit)) (now (code .exit)) row (r .place .0) (r .value) (r .other) ⌝ }
-    ensures { λ r. ⌜ r .rest ≡ getD (now (left .exit)) (r .other) 0 ⌝ }
+    requires { ⌜ One n t (now shifts) (now sum) (now tally) row ⌝ }
+    ensures { λ r. ⌜ Takes (layout n t (now (shifts .entry))) (now (sum .entry)) (now (tally .entry)) (now (sum .exit)) (now (tally .exit)) row (r .place .0) (r .value) (r .other) ⌝ }
+    ensures { λ r. ⌜ r .rest ≡ counts (now (tally .exit)) (r .other) ⌝ }
 {
-    let packed = Packed(code[row]);
+    let w = tally[row];
     let x = sum[row];
-    let place = packed.place(t);
-    let other = beside(n, t, shifts, packed, row);
-    let rest = remove(
-        &mut sum[..],
-        &mut left[..],
-        &mut code[..],
-        row,
-        other,
-        packed,
-        x,
-    );
+    let j = w as usize - 1024;
+    let p = shifts[j] as usize;
+    let met = beside(t, p, row);
+    let place = Place((j * t + met.offset) as u16);
+    let rest = remove(&mut sum[..], &mut tally[..], row, met.other, w, x);
     Settled {
         place,
         value: x,
-        other,
+        other: met.other,
         rest,
     }
 }

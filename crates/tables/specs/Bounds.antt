@@ -1,31 +1,32 @@
--- What the numbers of the tables are bounded by, so that the entries fit a byte: a section has one place on a row, so no row has more
--- erasures than there are sections; and a row of an erasure has at least one.
-use mathlib.Core.Path.{_≡_, sym, _∙_, ap}
+-- What the tallies are bounded by: a section has one place on a row, so no row has more erasures than there are sections, 32 at most, and
+-- the sections on it add up to less than 1,024. So a tally fits 16 bits (tally-room) and says how many there are (tally-counts).
+use mathlib.Core.Path.{_≡_, sym, _∙_, ap, subst}
 use mathlib.Core.Logic.{⊎-elim}
 use mathlib.Core.List.{List, map}
 use Prim.Native.Nat.{ℕ, _+_, _-_, _*_, _/_, _%_, _≤_, _<_}
 use native.Mathlib.Omega.{arith}
 use lib.ListN.{length, getD, length-map}
 use Rattle.math.specs.Members.{_∈_}
-use Rattle.math.specs.MembersLaws.{length-upTo, rising-distinct}
+use Rattle.math.specs.MembersLaws.{upTo-∈, length-upTo, rising-distinct}
+use Rattle.math.specs.Sums.{sumOver}
+use Rattle.math.specs.SumsLaws.{sumOver-add, sumOver-const, sumOver-le, sumOver-split, sumOver-zero}
 use Rattle.math.specs.Pigeonhole.{map-mem, distinct-map, distinct-length}
-use Rattle.math.specs.Residues.{back-injective}
 use Rattle.plan.specs.Layout.{Layout, Valid, layout, topRow, bottomRow, top, bottom}
 use Rattle.code.specs.Places.{Meets}
 use Rattle.code.specs.Laws.Basics.{places-∈, place-unique, offset-lt, top≢bottom, meets-row}
 use Rattle.code.specs.Laws.Forest.{Erased}
-use Rattle.tables.specs.Picture.{Sized, Remaining, onRow}
+use Rattle.tables.specs.Picture.{Sized, weight, counts, Counted, onRow}
 use Rattle.tables.specs.Sizes.{sized-valid}
-use Rattle.tables.specs.StuckLaws.{onRow-∈, onRow-some, distinct-onRow}
+use Rattle.tables.specs.Spots.{bottom-injective}
+use Rattle.tables.specs.StuckLaws.{∈-length, ∈-onRow, onRow-∈, distinct-onRow}
 
 module _ (L : Layout) (ok : Valid L) where
   -- two places of a section on one row are one
   same-bottom : (c d : ℕ) → (c / L .t) ∈ L .sections → c / L .t ≡ d / L .t → bottom L c ≡ bottom L d → c % L .t ≡ d % L .t
-  unfolding bottom bottomRow
+  unfolding bottom
   same-bottom c d i e h =
-      let q : L .t + (c % L .t + L .t - L .shift (c / L .t)) % L .t ≡ L .t + (d % L .t + L .t - L .shift (c / L .t)) % L .t
-      = h ∙ ap (λ j. L .t + (d % L .t + L .t - L .shift j) % L .t) (sym e) in
-      back-injective {p = L .shift (c / L .t)} (omega (arith, ok .below (c / L .t) i)) (offset-lt L ok c) (offset-lt L ok d) (omega (arith, q))
+      bottom-injective (ok .below (c / L .t) i) (offset-lt L ok c) (offset-lt L ok d)
+      (h ∙ ap (λ j. bottomRow (L .t) (L .shift j) (d % L .t)) (sym e))
 
   one-in-section : (c d r : ℕ) → (c / L .t) ∈ L .sections → Meets L c r → Meets L d r → c / L .t ≡ d / L .t → c ≡ d
   unfolding top topRow
@@ -53,10 +54,50 @@ module _ (L : Layout) (ok : Valid L) where
       inside : (j : ℕ) → j ∈ map (λ c. c / L .t) (onRow L E r) → j ∈ L .sections
       inside j i = let o = map-mem (λ c. c / L .t) (onRow L E r) i in rw (o .2) (section (o .0) (o .1))
 
-module _ {n t : ℕ} {shifts : List ℕ} (s : Sized n t shifts) {E left code : List ℕ} (C : Remaining (layout n t shifts) E left code) where
-  pub left-room : {r : ℕ} → r < 2 * layout n t shifts .t → getD left r 0 + 1 < 256
+module _ {n t : ℕ} {shifts : List ℕ} (s : Sized n t shifts) {E : List ℕ} (er : Erased (layout n t shifts) E) where
+  few : (r : ℕ) → length (onRow (layout n t shifts) E r) ≤ 32
   unfolding layout
-  left-room {r} h = omega (arith, C .lefts r h, onRow-count (layout n t shifts) (sized-valid s) (C .erased) r, length-upTo n, s .n-max)
+  few r = omega (arith, onRow-count (layout n t shifts) (sized-valid s) er r, length-upTo n, s .n-max)
 
-  pub left-some : {c r : ℕ} → c ∈ E → Meets (layout n t shifts) c r → 0 < getD left r 0
-  left-some {c} {r} m h = rw (C .lefts r (meets-row (layout n t shifts) (sized-valid s) c h)) (onRow-some (layout n t shifts) m h)
+  -- the weights on a row: so many times 1,024, and the sections
+  weights : (r : ℕ) → sumOver (onRow (layout n t shifts) E r) (weight t)
+      ≡ length (onRow (layout n t shifts) E r) * 1024 + sumOver (onRow (layout n t shifts) E r) (λ c. c / t)
+  unfolding weight
+  weights r = sumOver-add (onRow (layout n t shifts) E r) (λ c. 1024) (λ c. c / t)
+      ∙ ap (λ y. y + sumOver (onRow (layout n t shifts) E r) (λ c. c / t)) (sumOver-const (onRow (layout n t shifts) E r) 1024)
+
+  sections-few : (r : ℕ) → sumOver (onRow (layout n t shifts) E r) (λ c. c / t) ≤ length (onRow (layout n t shifts) E r) * 31
+  unfolding layout
+  sections-few r =
+      subst (λ y. sumOver (onRow (layout n t shifts) E r) (λ c. c / t) ≤ y) (sumOver-const (onRow (layout n t shifts) E r) 31)
+      (sumOver-le (onRow (layout n t shifts) E r) (λ c. c / t) (λ c. 31) (λ c m.
+      omega (arith, upTo-∈ n (places-∈ (layout n t shifts) (er .inside c (onRow-∈ (layout n t shifts) E r m .0)) .1), s .n-max)))
+
+module _ {n t : ℕ} {shifts : List ℕ} (s : Sized n t shifts) {E tally : List ℕ} (C : Counted (layout n t shifts) E tally) where
+  tally-is : {r : ℕ} → r < 2 * layout n t shifts .t → getD tally r 0
+      ≡ length (onRow (layout n t shifts) E r) * 1024 + sumOver (onRow (layout n t shifts) E r) (λ c. c / t)
+  unfolding layout
+  tally-is {r} h = C .tallies r h ∙ weights s (C .erased) r
+
+  -- what the tally counts
+  pub tally-counts : {r : ℕ} → r < 2 * layout n t shifts .t → counts tally r ≡ length (onRow (layout n t shifts) E r)
+  unfolding counts
+  tally-counts {r} h = omega (arith, tally-is h, sections-few s (C .erased) r, few s (C .erased) r)
+
+  -- there is room for one more
+  pub tally-room : {r : ℕ} → r < 2 * layout n t shifts .t → getD tally r 0 + 1055 < 65536
+  tally-room {r} h = omega (arith, tally-is h, sections-few s (C .erased) r, few s (C .erased) r)
+
+module _ (L : Layout) (ok : Valid L) {E tally : List ℕ} (C : Counted L E tally) where
+  -- a tally is no less than the weight of a place on the row
+  pub tally-some : {c r : ℕ} → c ∈ E → Meets L c r → weight (L .t) c ≤ getD tally r 0
+  tally-some {c} {r} m h =
+      omega (
+        arith,
+        C .tallies r (meets-row L ok c h),
+        sumOver-split (weight (L .t)) (distinct-onRow L r (rising-distinct (C .erased .rising))) (∈-onRow L m h),
+      )
+
+  -- with no place on the row it is 0
+  pub tally-none : {r : ℕ} → r < 2 * L .t → length (onRow L E r) ≡ 0 → getD tally r 0 ≡ 0
+  tally-none {r} h z = C .tallies r h ∙ sumOver-zero (onRow L E r) (weight (L .t)) (λ c m. absurd (omega (arith, z, ∈-length m)))

@@ -1,7 +1,7 @@
 -- Places noted in the tables one after the other, in rising order: the tables count those of a list below the place that has been come to.
 -- Main results: seen-start, seen-skip (places that are not of the list), noted-notes (a place is noted), and how Due and Notes go on (notes-then, due-then);
 -- `fromPlace` selects the places from a place on, `below` those below one.
-use mathlib.Core.Path.{_≡_, refl, sym, _∙_, ap, subst}
+use mathlib.Core.Path.{_≡_, sym, _∙_, ap, subst}
 use mathlib.Core.Logic.{⊎-elim, by-cases}
 use mathlib.Core.List.{List, [], _∷_, _++_, List·Memᴰ·append-cases, List·Memᴰ·eq-of-singleton, Memᴰ·cast, Memᴰ·append-left, Memᴰ·append-right}
 use mathlib.Core.List.{List·Memᴰ·head as here, List·Memᴰ·not-nil as not-nil}
@@ -15,15 +15,14 @@ use lib.ListN.{length, getD, set, replicate, length-replicate, getD-replicate}
 use lib.Seq.{getD-set-other}
 use Rattle.math.specs.Members.{_∈_, keep, Rising, rising-none, rising-more}
 use Rattle.math.specs.MembersLaws.{∈-keep, keep-∈, keep-all, keep-none, keep-ext, rising-keep, rising-append, rising-ext}
-use Rattle.math.specs.Xor.{_⊕_}
-use Rattle.math.specs.Sums.{xorOver}
+use Rattle.math.specs.Sums.{sumOver}
 use Rattle.plan.specs.Layout.{Layout, layout, top, bottom, bottomRow}
 use Rattle.code.specs.Laws.Forest.{Erased}
-use Rattle.tables.specs.Picture.{Sized, Counted, codeOf, onRow}
-use Rattle.tables.specs.Spots.{Stands, Reached, reached-stands, stands-top, stands-bottom, stands-code, stands-inside}
+use Rattle.tables.specs.Picture.{Sized, Counted, weight, onRow}
+use Rattle.tables.specs.Spots.{Stands, Reached, reached-stands, stands-top, stands-bottom, stands-weight, stands-inside}
 use Rattle.tables.specs.Sizes.{layout-t, sized-valid, sized-∈}
-use Rattle.tables.specs.PictureLaws.{counted-add, remaining}
-use Rattle.tables.specs.Bounds.{left-room}
+use Rattle.tables.specs.PictureLaws.{counted-add}
+use Rattle.tables.specs.Bounds.{tally-room}
 
 -- the erasures from place a on
 unfoldable pub fromPlace : ℕ → List ℕ → List ℕ
@@ -88,36 +87,35 @@ below-note i {E} r m =
     (List·Memᴰ·append-cases (below i E) p))
 
 -- the tables count those of E below place c
-pub record Seen (n t : ℕ) (shifts E : List ℕ) (c : ℕ) (left code : List ℕ) : Type 0 where
-  pub counted : Counted (layout n t shifts) (below c E) left code
+pub record Seen (n t : ℕ) (shifts E : List ℕ) (c : ℕ) (tally : List ℕ) : Type 0 where
+  pub counted : Counted (layout n t shifts) (below c E) tally
 
 -- every place from c to e is of E
 abbrev pub All : List ℕ → ℕ → ℕ → Type 0
 All E c e = (d : ℕ) → c ≤ d → d < e → d ∈ E
 
 -- the tables count places below c of some list that goes on with all places from c to e
-pub record Due (n t : ℕ) (shifts : List ℕ) (c e : ℕ) (left code : List ℕ) : Type 0 where
+pub record Due (n t : ℕ) (shifts : List ℕ) (c e : ℕ) (tally : List ℕ) : Type 0 where
   pub sized : Sized n t shifts
   pub E : List ℕ
   pub erased : Erased (layout n t shifts) E
   pub all : All E c e
-  pub seen : Seen n t shifts E c left code
+  pub seen : Seen n t shifts E c tally
 
 -- those are noted, whatever the list
-pub record Notes (n t : ℕ) (shifts : List ℕ) (c e : ℕ) (left code left' code' : List ℕ) : Type 0 where
-  pub notes : (E : List ℕ) → Erased (layout n t shifts) E → All E c e → Seen n t shifts E c left code → Seen n t shifts E e left' code'
+pub record Notes (n t : ℕ) (shifts : List ℕ) (c e : ℕ) (tally tally' : List ℕ) : Type 0 where
+  pub notes : (E : List ℕ) → Erased (layout n t shifts) E → All E c e → Seen n t shifts E c tally → Seen n t shifts E e tally'
 
 -- what noting the place at section j and offset k needs; p is the section's shift
-pub record Ready (t p j k : ℕ) (left code : List ℕ) : Type 0 where
+pub record Ready (t p j k : ℕ) (tally : List ℕ) : Type 0 where
   pub within : k < t
   pub shift : p < t
   pub t-max : t ≤ 2048
   pub section : j < 32
-  pub left-long : length left ≡ 2 * t
-  pub code-long : length code ≡ 2 * t
-  pub room : (r : ℕ) → r < 2 * t → getD left r 0 + 1 < 256
+  pub long : length tally ≡ 2 * t
+  pub room : (r : ℕ) → r < 2 * t → getD tally r 0 + 1055 < 65536
 
-module _ {t p j k : ℕ} {left code : List ℕ} (R : Ready t p j k left code) where
+module _ {t p j k : ℕ} {tally : List ℕ} (R : Ready t p j k tally) where
   bottom-small : bottomRow t p k < 2 * t
   unfolding bottomRow
   bottom-small = let h : 0 < t = omega arith in omega (arith, mod-lt (k + t - p) h)
@@ -133,93 +131,80 @@ module _ {t p j k : ℕ} {left code : List ℕ} (R : Ready t p j k left code) wh
   pub ready-bottom : {b m : ℕ} → b ≡ bottomRow t p k → m ≡ 2 * t → b < m
   ready-bottom e q = omega (arith, bottom-small)
 
-  pub room-top : {h : ℕ} → h ≡ k → getD left h 0 + 1 < 256
-  room-top {h} e = R .room h (omega arith)
+  -- there is room for the weight w
+  pub room-top : {h w : ℕ} → h ≡ k → w ≡ 1024 + j → getD tally h 0 + w < 65536
+  room-top {h} e q = omega (arith, R .room h (omega arith), R .section)
 
-  pub room-bottom : {h b : ℕ} {left₁ : List ℕ} → h ≡ k → b ≡ bottomRow t p k → left₁ ≡ set left h (getD left h 0 + 1) → getD left₁ b 0 + 1 < 256
-  room-bottom {h} {b} {left₁} e f q =
-      let g : getD left₁ b 0 ≡ getD left b 0 = ap (λ l. getD l b 0) q ∙ getD-set-other left h b (getD left h 0 + 1) 0 (λ z. omega (arith, bottom-large)) in
+  pub room-bottom : {h b w : ℕ} {tally₁ : List ℕ} → h ≡ k → b ≡ bottomRow t p k → w ≡ 1024 + j → tally₁ ≡ set tally h (getD tally h 0 + w)
+      → getD tally₁ b 0 + w < 65536
+  room-bottom {h} {b} {w} {tally₁} e f v q =
+      let g : getD tally₁ b 0 ≡ getD tally b 0 = ap (λ l. getD l b 0) q ∙ getD-set-other tally h b (getD tally h 0 + w) 0 (λ z. omega (arith, bottom-large)) in
       let m : b < 2 * t = omega (arith, bottom-small) in
-      rw g (R .room b m)
+      omega (arith, g, R .room b m, R .section)
 
 -- what it does: stores at the top row, then at the bottom row
-pub record Noted (t p j k : ℕ) (left code left' code' : List ℕ) : Type 0 where
-  pub left₁ : List ℕ
-  pub code₁ : List ℕ
-  pub left-top : left₁ ≡ set left k (getD left k 0 + 1)
-  pub left-bottom : left' ≡ set left₁ (bottomRow t p k) (getD left₁ (bottomRow t p k) 0 + 1)
-  pub code-top : code₁ ≡ set code k (getD code k 0 ⊕ (j * 2048 + k))
-  pub code-bottom : code' ≡ set code₁ (bottomRow t p k) (getD code₁ (bottomRow t p k) 0 ⊕ (j * 2048 + k))
+pub record Noted (t p j k : ℕ) (tally tally' : List ℕ) : Type 0 where
+  pub tally₁ : List ℕ
+  pub at-top : tally₁ ≡ set tally k (getD tally k 0 + (1024 + j))
+  pub at-bottom : tally' ≡ set tally₁ (bottomRow t p k) (getD tally₁ (bottomRow t p k) 0 + (1024 + j))
 
--- the stores at rows h and b with code q
-pub noted : {t p j k h b q : ℕ} {left code left₁ code₁ left' code' : List ℕ} → h ≡ k → b ≡ bottomRow t p k → q ≡ j * 2048 + k
-    → left₁ ≡ set left h (getD left h 0 + 1) → left' ≡ set left₁ b (getD left₁ b 0 + 1)
-    → code₁ ≡ set code h (getD code h 0 ⊕ q) → code' ≡ set code₁ b (getD code₁ b 0 ⊕ q) → Noted t p j k left code left' code'
-noted {left₁ = left₁} {code₁ = code₁} eh eb eq l l' c c' =
-    record {
-      left₁ = left₁;
-      code₁ = code₁;
-      left-top = rw eh at l;
-      left-bottom = rw eb at l';
-      code-top = rw (eh, eq) at c;
-      code-bottom = rw (eb, eq) at c';
-    }
+-- the stores at rows h and b with weight w
+pub noted : {t p j k h b w : ℕ} {tally tally₁ tally' : List ℕ} → h ≡ k → b ≡ bottomRow t p k → w ≡ 1024 + j
+    → tally₁ ≡ set tally h (getD tally h 0 + w) → tally' ≡ set tally₁ b (getD tally₁ b 0 + w) → Noted t p j k tally tally'
+noted {tally₁ = tally₁} eh eb ew l l' = record { tally₁ = tally₁; at-top = rw (eh, ew) at l; at-bottom = rw (eb, ew) at l' }
 
 -- none yet
-pub counted-none : (n t : ℕ) (shifts : List ℕ) {left code : List ℕ} → left ≡ replicate (2 * t) 0 → code ≡ replicate (2 * t) 0 → Counted (layout n t shifts) [] left code
-unfolding layout onRow keep xorOver
-counted-none n t shifts {left} {code} l k =
+pub counted-none : (n t : ℕ) (shifts : List ℕ) {tally : List ℕ} → tally ≡ replicate (2 * t) 0 → Counted (layout n t shifts) [] tally
+unfolding layout onRow keep sumOver
+counted-none n t shifts {tally} k =
     record {
-      left-long = rw l (length-replicate (2 * t) 0);
-      code-long = rw k (length-replicate (2 * t) 0);
+      long = rw k (length-replicate (2 * t) 0);
       erased = record { rising = rising-none; inside = λ c m. absurd (not-nil m) };
-      lefts = λ r h. rw l (getD-replicate (2 * t) r 0 0 h);
-      codes = λ r h. rw k (getD-replicate (2 * t) r 0 0 h);
+      tallies = λ r h. rw k (getD-replicate (2 * t) r 0 0 h);
     }
 
-pub seen-start : {n t : ℕ} {shifts : List ℕ} (E : List ℕ) {left code : List ℕ} → left ≡ replicate (2 * t) 0 → code ≡ replicate (2 * t) 0
-    → Seen n t shifts E 0 left code
-seen-start {n} {t} {shifts} E {left} {code} l k =
-    record { counted = subst (λ F. Counted (layout n t shifts) F left code) (sym (below-none E)) (counted-none n t shifts l k) }
+pub seen-start : {n t : ℕ} {shifts : List ℕ} (E : List ℕ) {tally : List ℕ} → tally ≡ replicate (2 * t) 0 → Seen n t shifts E 0 tally
+seen-start {n} {t} {shifts} E {tally} k =
+    record { counted = subst (λ F. Counted (layout n t shifts) F tally) (sym (below-none E)) (counted-none n t shifts k) }
 
-pub seen-long : {n t : ℕ} {shifts E : List ℕ} {c : ℕ} {left code : List ℕ} → Seen n t shifts E c left code → (length left ≡ 2 * t) × (length code ≡ 2 * t)
+pub seen-long : {n t : ℕ} {shifts E : List ℕ} {c : ℕ} {tally : List ℕ} → Seen n t shifts E c tally → length tally ≡ 2 * t
 unfolding layout
-seen-long S = (S .counted .left-long, S .counted .code-long)
+seen-long S = S .counted .long
 
-pub seen-at : {n t : ℕ} {shifts E : List ℕ} {c d : ℕ} {left code : List ℕ} → c ≡ d → Seen n t shifts E c left code → Seen n t shifts E d left code
-seen-at {n} {t} {shifts} {E} {left = left} {code = code} e S = subst (λ z. Seen n t shifts E z left code) e S
+pub seen-at : {n t : ℕ} {shifts E : List ℕ} {c d : ℕ} {tally : List ℕ} → c ≡ d → Seen n t shifts E c tally → Seen n t shifts E d tally
+seen-at {n} {t} {shifts} {E} {tally = tally} e S = subst (λ z. Seen n t shifts E z tally) e S
 
 -- from c to c' there is none of E
-pub seen-skip : {n t : ℕ} {shifts E : List ℕ} {c : ℕ} {left code : List ℕ} (c' : ℕ) → Seen n t shifts E c left code
-    → c ≤ c' → ((d : ℕ) → c ≤ d → d < c' → ¬ (d ∈ E)) → Seen n t shifts E c' left code
-seen-skip {n} {t} {shifts} {E} {c} {left} {code} c' S g h =
-    record { counted = subst (λ F. Counted (layout n t shifts) F left code) (sym (below-skip c c' E g h)) (S .counted) }
+pub seen-skip : {n t : ℕ} {shifts E : List ℕ} {c : ℕ} {tally : List ℕ} (c' : ℕ) → Seen n t shifts E c tally
+    → c ≤ c' → ((d : ℕ) → c ≤ d → d < c' → ¬ (d ∈ E)) → Seen n t shifts E c' tally
+seen-skip {n} {t} {shifts} {E} {c} {tally} c' S g h =
+    record { counted = subst (λ F. Counted (layout n t shifts) F tally) (sym (below-skip c c' E g h)) (S .counted) }
 
 -- all are noted
-pub seen-all : {n t : ℕ} {shifts E : List ℕ} {c : ℕ} {left code : List ℕ} → Sized n t shifts → Erased (layout n t shifts) E → Seen n t shifts E c left code
-    → n * t ≤ c → Counted (layout n t shifts) E left code
-seen-all {n} {t} {shifts} {E} {c} {left} {code} s er S h =
-    subst (λ F. Counted (layout n t shifts) F left code) (below-all c E (λ d m. omega (arith, sized-∈ s (er .inside d m)))) (S .counted)
+pub seen-all : {n t : ℕ} {shifts E : List ℕ} {c : ℕ} {tally : List ℕ} → Sized n t shifts → Erased (layout n t shifts) E → Seen n t shifts E c tally
+    → n * t ≤ c → Counted (layout n t shifts) E tally
+seen-all {n} {t} {shifts} {E} {c} {tally} s er S h =
+    subst (λ F. Counted (layout n t shifts) F tally) (below-all c E (λ d m. omega (arith, sized-∈ s (er .inside d m)))) (S .counted)
 
 -- ---- Due and Notes
 
-pub notes-none : {n t : ℕ} {shifts : List ℕ} {c : ℕ} {left code : List ℕ} → Notes n t shifts c c left code left code
+pub notes-none : {n t : ℕ} {shifts : List ℕ} {c : ℕ} {tally : List ℕ} → Notes n t shifts c c tally tally
 notes-none = record { notes = λ E er a S. S }
 
-pub notes-then : {n t : ℕ} {shifts : List ℕ} {c d e : ℕ} {left code left₁ code₁ left' code' : List ℕ} → c ≤ d → d ≤ e
-    → Notes n t shifts c d left code left₁ code₁ → Notes n t shifts d e left₁ code₁ left' code' → Notes n t shifts c e left code left' code'
+pub notes-then : {n t : ℕ} {shifts : List ℕ} {c d e : ℕ} {tally tally₁ tally' : List ℕ} → c ≤ d → d ≤ e
+    → Notes n t shifts c d tally tally₁ → Notes n t shifts d e tally₁ tally' → Notes n t shifts c e tally tally'
 notes-then h l A B =
     record {
       notes = λ E er a S. B .notes E er (λ x y z. a x (omega arith) z) (A .notes E er (λ x y z. a x y (omega arith)) S);
     }
 
-pub notes-at : {n t : ℕ} {shifts : List ℕ} {c d e : ℕ} {left code left' code' : List ℕ} → d ≡ e → Notes n t shifts c d left code left' code'
-    → Notes n t shifts c e left code left' code'
-notes-at {n} {t} {shifts} {c} {left = left} {code = code} {left' = left'} {code' = code'} q N =
-    subst (λ z. Notes n t shifts c z left code left' code') q N
+pub notes-at : {n t : ℕ} {shifts : List ℕ} {c d e : ℕ} {tally tally' : List ℕ} → d ≡ e → Notes n t shifts c d tally tally'
+    → Notes n t shifts c e tally tally'
+notes-at {n} {t} {shifts} {c} {tally = tally} {tally' = tally'} q N =
+    subst (λ z. Notes n t shifts c z tally tally') q N
 
-pub due-then : {n t : ℕ} {shifts : List ℕ} {c d e : ℕ} {left code left' code' : List ℕ} → c ≤ d → d ≤ e → Due n t shifts c e left code
-    → Notes n t shifts c d left code left' code' → Due n t shifts d e left' code'
+pub due-then : {n t : ℕ} {shifts : List ℕ} {c d e : ℕ} {tally tally' : List ℕ} → c ≤ d → d ≤ e → Due n t shifts c e tally
+    → Notes n t shifts c d tally tally' → Due n t shifts d e tally'
 due-then h l D A =
     record {
       sized = D .sized;
@@ -229,11 +214,11 @@ due-then h l D A =
       seen = A .notes (D .E) (D .erased) (λ x y z. D .all x y (omega arith)) (D .seen);
     }
 
-pub due-part : {n t : ℕ} {shifts : List ℕ} {c d e : ℕ} {left code : List ℕ} → d ≤ e → Due n t shifts c e left code → Due n t shifts c d left code
+pub due-part : {n t : ℕ} {shifts : List ℕ} {c d e : ℕ} {tally : List ℕ} → d ≤ e → Due n t shifts c e tally → Due n t shifts c d tally
 due-part l D = record { sized = D .sized; E = D .E; erased = D .erased; all = λ x y z. D .all x y (omega arith); seen = D .seen }
 
-module _ {n t : ℕ} {shifts : List ℕ} {c e : ℕ} {left code : List ℕ} (D : Due n t shifts c e left code) where
-  pub due-long : (length left ≡ 2 * t) × (length code ≡ 2 * t)
+module _ {n t : ℕ} {shifts : List ℕ} {c e : ℕ} {tally : List ℕ} (D : Due n t shifts c e tally) where
+  pub due-long : length tally ≡ 2 * t
   due-long = seen-long (D .seen)
 
   -- they are places
@@ -242,7 +227,7 @@ module _ {n t : ℕ} {shifts : List ℕ} {c e : ℕ} {left code : List ℕ} (D :
       let m : e - 1 ∈ D .E = D .all (e - 1) (omega arith) (omega arith) in
       omega (arith, sized-∈ (D .sized) (D .erased .inside (e - 1) m))
 
-  pub due-ready : {j k : ℕ} → c < e → Stands t c j k → Ready t (getD shifts j 0) j k left code
+  pub due-ready : {j k : ℕ} → c < e → Stands t c j k → Ready t (getD shifts j 0) j k tally
   unfolding layout
   due-ready {j} h st =
       let i : j < n = stands-inside st n (omega (arith, due-inside h)) in
@@ -251,19 +236,18 @@ module _ {n t : ℕ} {shifts : List ℕ} {c e : ℕ} {left code : List ℕ} (D :
         shift = D .sized .below j i;
         t-max = D .sized .t-max;
         section = omega (arith, D .sized .n-max);
-        left-long = due-long .0;
-        code-long = due-long .1;
-        room = λ r l. left-room (D .sized) (remaining (D .seen .counted)) l;
+        long = due-long;
+        room = λ r l. tally-room (D .sized) (D .seen .counted) l;
       }
 
   -- the same at the section that a scan has reached
-  pub due-here : {j begin end p : ℕ} → c < e → Reached n t shifts c j begin end p → c < end → Ready t p j (c - begin) left code
-  due-here {j} {begin} h R l = subst (λ z. Ready t z j (c - begin) left code) (sym (R .shift)) (due-ready h (reached-stands R l))
+  pub due-here : {j begin end p : ℕ} → c < e → Reached n t shifts c j begin end p → c < end → Ready t p j (c - begin) tally
+  due-here {j} {begin} h R l = subst (λ z. Ready t z j (c - begin) tally) (sym (R .shift)) (due-ready h (reached-stands R l))
 
 -- a place is noted
-pub noted-notes : {n t : ℕ} {shifts : List ℕ} {c j k : ℕ} {left code left' code' : List ℕ} → Sized n t shifts → Stands t c j k
-    → Noted t (getD shifts j 0) j k left code left' code' → Notes n t shifts c (c + 1) left code left' code'
-noted-notes {n} {t} {shifts} {c} {j} {k} {left} {code} {left'} {code'} s st D = record { notes = step }
+pub noted-notes : {n t : ℕ} {shifts : List ℕ} {c j k : ℕ} {tally tally' : List ℕ} → Sized n t shifts → Stands t c j k
+    → Noted t (getD shifts j 0) j k tally tally' → Notes n t shifts c (c + 1) tally tally'
+noted-notes {n} {t} {shifts} {c} {j} {k} {tally} {tally'} s st D = record { notes = step }
   where
     L : Layout
     L = layout n t shifts
@@ -274,19 +258,19 @@ noted-notes {n} {t} {shifts} {c} {j} {k} {left} {code} {left'} {code'} s st D = 
     B : bottom L c ≡ bottomRow t (getD shifts j 0) k
     B = stands-bottom st n shifts
 
-    K : codeOf (L .t) c ≡ j * 2048 + k
-    K = ap (λ z. codeOf z c) (layout-t n t shifts) ∙ stands-code st
+    W : weight (L .t) c ≡ 1024 + j
+    W = ap (λ z. weight z c) (layout-t n t shifts) ∙ stands-weight st
 
-    step : (E : List ℕ) → Erased L E → All E c (c + 1) → Seen n t shifts E c left code → Seen n t shifts E (c + 1) left' code'
+    step : (E : List ℕ) → Erased L E → All E c (c + 1) → Seen n t shifts E c tally → Seen n t shifts E (c + 1) tally'
     step E er a S =
         let m : c ∈ E = a c (omega arith) (omega arith) in
         record {
-          counted = subst (λ F. Counted L F left' code') (sym (below-note c (er .rising) m))
-              (counted-add L (sized-valid s) c (S .counted) (D .left₁) left' (D .code₁) code' (er .inside c m) (λ d i. below-in c E i .1)
-              (rw T (D .left-top)) (rw B (D .left-bottom)) (rw (T, K) (D .code-top)) (rw (B, K) (D .code-bottom)));
+          counted = subst (λ F. Counted L F tally') (sym (below-note c (er .rising) m))
+              (counted-add L (sized-valid s) c (S .counted) (D .tally₁) tally' (er .inside c m) (λ d i. below-in c E i .1)
+              (rw (T, W) (D .at-top)) (rw (B, W) (D .at-bottom)));
         }
 
-pub noted-here : {n t : ℕ} {shifts : List ℕ} {c j begin end p : ℕ} {left code left' code' : List ℕ} → Sized n t shifts → Reached n t shifts c j begin end p → c < end
-    → Noted t p j (c - begin) left code left' code' → Notes n t shifts c (c + 1) left code left' code'
-noted-here {t = t} {c = c} {j = j} {begin = begin} {left = left} {code = code} {left' = left'} {code' = code'} s R h D =
-    noted-notes s (reached-stands R h) (subst (λ z. Noted t z j (c - begin) left code left' code') (R .shift) D)
+pub noted-here : {n t : ℕ} {shifts : List ℕ} {c j begin end p : ℕ} {tally tally' : List ℕ} → Sized n t shifts → Reached n t shifts c j begin end p → c < end
+    → Noted t p j (c - begin) tally tally' → Notes n t shifts c (c + 1) tally tally'
+noted-here {t = t} {c = c} {j = j} {begin = begin} {tally = tally} {tally' = tally'} s R h D =
+    noted-notes s (reached-stands R h) (subst (λ z. Noted t z j (c - begin) tally tally') (R .shift) D)

@@ -1,9 +1,9 @@
 -- The row tables of a block with erasures, and what it is to settle erasures.
 pub mod Picture
-pub mod Codes
 pub mod Spots
 pub mod PictureLaws
 pub mod Sizes
+pub mod Beside
 pub mod Sweeps
 pub mod Filling
 pub mod Zeros

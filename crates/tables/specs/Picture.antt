@@ -1,15 +1,16 @@
--- What the row tables hold. A block with erasures is pictured by three tables with an entry for each row: its sum, the number of erasures
--- left on it, and the exclusive or of their codes. When one erasure is left on a row, the last entry is that place's code.
+-- What the row tables hold. A block with erasures is pictured by two tables with an entry for each row: its sum, and the tally of the erasures
+-- left on it: 1,024 for each, and its section. A row has at most 32, whose sections add up to less than 1,024: the tally says how many they are
+-- and, of one that is left alone, the section, by which the row says the place.
 use mathlib.Core.Path.{_≡_}
 use mathlib.Core.Logic.{_≢_}
 use mathlib.Core.List.{List}
-use Prim.Native.Nat.{ℕ, _+_, _*_, _/_, _%_, _≤_, _<_}
+use Prim.Native.Nat.{ℕ, _+_, _*_, _/_, _≤_, _<_}
 use lib.ListN.{length, getD}
 use Rattle.math.specs.Members.{_∈_, keep}
 use Rattle.math.specs.Xor.{_⊕_}
-use Rattle.math.specs.Sums.{xorOver}
+use Rattle.math.specs.Sums.{sumOver}
 use Rattle.bounds.specs.Bounds.{minN, maxN, minT, maxT, maxPlaces}
-use Rattle.plan.specs.Layout.{Layout, layout}
+use Rattle.plan.specs.Layout.{Layout}
 use Rattle.code.specs.Places.{places, meets}
 use Rattle.code.specs.Codewords.{syndrome}
 use Rattle.code.specs.Laws.Forest.{Erased}
@@ -24,42 +25,36 @@ pub record Sized (n t : ℕ) (shifts : List ℕ) : Type 0 where
   pub long : n ≤ length shifts
   pub below : (j : ℕ) → j < n → getD shifts j 0 < t
 
--- the code of a place: section × 2,048 + offset, which fits 16 bits and takes apart with no division by t
-unfoldable pub codeOf : ℕ → ℕ → ℕ
-codeOf t c = c / t * 2048 + c % t
+-- what a place adds to the tally of each of its rows
+unfoldable pub weight : ℕ → ℕ → ℕ
+weight t c = 1024 + c / t
+
+-- how many erasures are left on row r, by its tally
+unfoldable pub counts : List ℕ → ℕ → ℕ
+counts tally r = getD tally r 0 / 1024
 
 -- the places of E on row r
 unfoldable pub onRow : Layout → List ℕ → ℕ → List ℕ
 onRow L E r = keep (λ c. meets L c r) E
 
--- two tables count erasures E: how many are on each row, and the exclusive or of their codes
-pub record Counted (L : Layout) (E left code : List ℕ) : Type 0 where
-  pub left-long : length left ≡ 2 * L .t
-  pub code-long : length code ≡ 2 * L .t
+-- a table tallies erasures E on each row
+pub record Counted (L : Layout) (E tally : List ℕ) : Type 0 where
+  pub long : length tally ≡ 2 * L .t
   pub erased : Erased L E
-  pub lefts : (r : ℕ) → r < 2 * L .t → getD left r 0 ≡ length (onRow L E r)
-  pub codes : (r : ℕ) → r < 2 * L .t → getD code r 0 ≡ xorOver (onRow L E r) (codeOf (L .t))
-
--- The same as erasures are settled: of a row with none left the code does not count.
-pub record Remaining (L : Layout) (E left code : List ℕ) : Type 0 where
-  pub left-long : length left ≡ 2 * L .t
-  pub code-long : length code ≡ 2 * L .t
-  pub erased : Erased L E
-  pub lefts : (r : ℕ) → r < 2 * L .t → getD left r 0 ≡ length (onRow L E r)
-  pub codes : (r : ℕ) → r < 2 * L .t → 0 < length (onRow L E r) → getD code r 0 ≡ xorOver (onRow L E r) (codeOf (L .t))
+  pub tallies : (r : ℕ) → r < 2 * L .t → getD tally r 0 ≡ sumOver (onRow L E r) (weight (L .t))
 
 -- the tables picture erasures E and a block u, which may hold anything at the erasures
-pub record Picture (L : Layout) (E : List ℕ) (u : ℕ → ℕ) (sum left code : List ℕ) : Type 0 where
+pub record Picture (L : Layout) (E : List ℕ) (u : ℕ → ℕ) (sum tally : List ℕ) : Type 0 where
   pub sum-long : length sum ≡ 2 * L .t
   pub byte : (c : ℕ) → u c < 256
   pub sums : (r : ℕ) → r < 2 * L .t → getD sum r 0 ≡ syndrome L u r
-  pub counted : Remaining L E left code
+  pub counted : Counted L E tally
 
 -- the tables picture some block with erasures: what the code needs to go by them
-pub record Pictured (L : Layout) (sum left code : List ℕ) : Type 0 where
+pub record Pictured (L : Layout) (sum tally : List ℕ) : Type 0 where
   pub E : List ℕ
   pub u : ℕ → ℕ
-  pub picture : Picture L E u sum left code
+  pub picture : Picture L E u sum tally
 
 -- From erasures E and block u to erasures F and block x, the k places in a list being the ones settled, and the k values what was added there:
 -- every codeword that agreed at the start agrees now.

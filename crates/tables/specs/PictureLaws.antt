@@ -1,9 +1,9 @@
 -- How the tables change when a place is noted (it joins the erasures) and when one is settled (it leaves them, and its symbol changes).
--- Main results: syndrome-change, length-onRow-add and -without, xor-onRow-add and -without, and from them
--- counted-more, remaining and picture-less; Touched says what stores at the two rows of a place do to a table.
+-- Main results: syndrome-change, sum-onRow-add and -without, and from them counted-more and picture-less; Touched says what stores at the two rows
+-- of a place do to a table.
 use mathlib.Core.Path.{_≡_, refl, sym, _∙_, ap, subst}
 use mathlib.Core.Logic.{inl, inr, ⊎-elim, by-cases}
-use mathlib.Core.Bool.{Bool, not, _&&_, and-comm, true≢false}
+use mathlib.Core.Bool.{Bool, true≢false}
 use mathlib.Core.List.{List, [], _∷_, _++_, List·Memᴰ·append-cases, List·Memᴰ·eq-of-singleton, Memᴰ·cast, List·Memᴰ·not-nil as not-nil}
 use Prim.Native.Nat.{ℕ, _+_, _-_, _*_, _<_}
 use native.Mathlib.Nat.{add-zero, sub-zero}
@@ -11,20 +11,20 @@ use native.Mathlib.Decide.{ℕ-discrete}
 use native.Mathlib.Omega.{arith}
 use borrow.Author.Tests.{eq-eqb, ne-eqb}
 use lib.Dec.{eqb}
-use lib.ListN.{length, getD, set, length-append, length-set}
+use lib.ListN.{length, getD, set, length-set}
 use lib.Seq.{getD-set-same, getD-set-other}
 use Rattle.math.specs.Members.{_∈_, keep, without, rising-none, rising-more, Distinct}
-use Rattle.math.specs.MembersLaws.{by-test, ∈-keep, keep-∈, keep-append, keep-ext, keep-keep, distinct-keep, without-∈, without-absent, rising-without, rising-append, rising-distinct, length-without}
-use Rattle.math.specs.Xor.{_⊕_, xor, ⊕-zero}
-use Rattle.math.specs.Sums.{xorOver, only}
-use Rattle.math.specs.SumsLaws.{only-true, only-false, only-zero, xorOver-append, xorOver-keep, xorOver-one, xorOver-split}
+use Rattle.math.specs.MembersLaws.{by-test, keep-append, without-∈, rising-without, rising-append, rising-distinct}
+use Rattle.math.specs.Xor.{_⊕_, ⊕-zero}
+use Rattle.math.specs.Sums.{sumOver, only}
+use Rattle.math.specs.SumsLaws.{only-true, only-false, only-zero, xorOver-one, sumOver-append, sumOver-const, sumOver-keep, sumOver-split}
 use Rattle.plan.specs.Layout.{Layout, Valid, top, bottom}
 use Rattle.code.specs.Places.{places, Meets, meets}
 use Rattle.code.specs.Codewords.{syndrome}
 use Rattle.code.specs.Checks.{update}
 use Rattle.code.specs.Laws.Basics.{distinct-places, top≢bottom, meets-row, meets-true, true-meets, syndrome-ext, syndrome-add}
 use Rattle.code.specs.Laws.Settle.{update-same, update-other}
-use Rattle.tables.specs.Picture.{codeOf, onRow, Counted, Remaining, Picture}
+use Rattle.tables.specs.Picture.{weight, onRow, Counted, Picture}
 
 -- ---- a symbol changes
 
@@ -52,56 +52,38 @@ syndrome-change L u v c x r m h =
 
 -- ---- an erasure comes or goes
 
-keep-one : (p : ℕ → Bool) (c : ℕ) → length (keep p (c ∷ [])) ≡ only (p c) 1
-unfolding keep only
-keep-one p c = by-test (p c) (λ e. rw e) (λ e. rw e)
+sum-one : (p : ℕ → Bool) (c : ℕ) (f : ℕ → ℕ) → sumOver (keep p (c ∷ [])) f ≡ only (p c) (f c)
+unfolding sumOver
+sum-one p c f = sumOver-keep p (c ∷ []) f ∙ add-zero (only (p c) (f c))
 
-xor-one : (p : ℕ → Bool) (c : ℕ) (f : ℕ → ℕ) → xorOver (keep p (c ∷ [])) f ≡ only (p c) (f c)
-unfolding xorOver
-xor-one p c f = xorOver-keep p (c ∷ []) f ∙ ⊕-zero (only (p c) (f c))
-
-pub length-onRow-add : (L : Layout) (E : List ℕ) (c r : ℕ) → length (onRow L (E ++ (c ∷ [])) r) ≡ length (onRow L E r) + only (meets L c r) 1
+pub sum-onRow-add : (L : Layout) (E : List ℕ) (c r : ℕ) (f : ℕ → ℕ)
+    → sumOver (onRow L (E ++ (c ∷ [])) r) f ≡ sumOver (onRow L E r) f + only (meets L c r) (f c)
 unfolding onRow
-length-onRow-add L E c r =
-    ap length (keep-append (λ d. meets L d r) E (c ∷ []))
-    ∙ length-append (keep (λ d. meets L d r) E) (keep (λ d. meets L d r) (c ∷ []))
-    ∙ ap (λ y. length (keep (λ d. meets L d r) E) + y) (keep-one (λ d. meets L d r) c)
+sum-onRow-add L E c r f =
+    ap (λ l. sumOver l f) (keep-append (λ d. meets L d r) E (c ∷ []))
+    ∙ sumOver-append (keep (λ d. meets L d r) E) (keep (λ d. meets L d r) (c ∷ [])) f
+    ∙ ap (λ y. sumOver (keep (λ d. meets L d r) E) f + y) (sum-one (λ d. meets L d r) c f)
 
-pub xor-onRow-add : (L : Layout) (E : List ℕ) (c r : ℕ) (f : ℕ → ℕ)
-    → xorOver (onRow L (E ++ (c ∷ [])) r) f ≡ xorOver (onRow L E r) f ⊕ only (meets L c r) (f c)
+pub sum-onRow-without : (L : Layout) (E : List ℕ) (c r : ℕ) (f : ℕ → ℕ) → Distinct E → c ∈ E
+    → sumOver (onRow L (without c E) r) f ≡ sumOver (onRow L E r) f - only (meets L c r) (f c)
 unfolding onRow
-xor-onRow-add L E c r f =
-    ap (λ l. xorOver l f) (keep-append (λ d. meets L d r) E (c ∷ []))
-    ∙ xorOver-append (keep (λ d. meets L d r) E) (keep (λ d. meets L d r) (c ∷ [])) f
-    ∙ ap (λ y. xorOver (keep (λ d. meets L d r) E) f ⊕ y) (xor-one (λ d. meets L d r) c f)
-
-keep-without : (p : ℕ → Bool) (c : ℕ) (E : List ℕ) → keep p (without c E) ≡ without c (keep p E)
-unfolding without
-keep-without p c E =
-    keep-keep p (λ d. not (eqb d c)) E
-    ∙ keep-ext (λ d. not (eqb d c) && p d) (λ d. p d && not (eqb d c)) E (λ d m. and-comm (not (eqb d c)) (p d))
-    ∙ sym (keep-keep (λ d. not (eqb d c)) p E)
-
-length-keep-without : (p : ℕ → Bool) (c : ℕ) (E : List ℕ) → Distinct E → c ∈ E → length (keep p (without c E)) ≡ length (keep p E) - only (p c) 1
-length-keep-without p c E d m =
-    ap length (keep-without p c E)
-    ∙ by-test (p c)
-    (λ e. rw (only-true 1 e) (omega (arith, length-without (distinct-keep p d) (∈-keep p m e))))
-    (λ e. rw (only-false 1 e, without-absent (λ k. true≢false (sym (keep-∈ p E k .1) ∙ e))) (sym (sub-zero (length (keep p E)))))
+sum-onRow-without L E c r f d m =
+    omega (
+      arith,
+      sumOver-keep (λ x. meets L x r) (without c E) f,
+      sumOver-keep (λ x. meets L x r) E f,
+      sumOver-split (λ x. only (meets L x r) (f x)) d m,
+    )
 
 pub length-onRow-without : (L : Layout) (E : List ℕ) (c r : ℕ) → Distinct E → c ∈ E
     → length (onRow L (without c E) r) ≡ length (onRow L E r) - only (meets L c r) 1
-unfolding onRow
-length-onRow-without L E c r d m = length-keep-without (λ x. meets L x r) c E d m
-
-pub xor-onRow-without : (L : Layout) (E : List ℕ) (c r : ℕ) (f : ℕ → ℕ) → Distinct E → c ∈ E
-    → xorOver (onRow L (without c E) r) f ≡ xorOver (onRow L E r) f ⊕ only (meets L c r) (f c)
-unfolding onRow
-xor-onRow-without L E c r f d m =
-    let g : ℕ → ℕ = λ x. only (meets L x r) (f x) in
-    let s = xorOver-split g d m in
-    xorOver-keep (λ x. meets L x r) (without c E) f
-    ∙ sym (ap (λ y. y ⊕ g c) (xorOver-keep (λ x. meets L x r) E f ∙ s) ∙ simp xor)
+length-onRow-without L E c r d m =
+    omega (
+      arith,
+      sum-onRow-without L E c r (λ x. 1) d m,
+      sumOver-const (onRow L (without c E) r) 1,
+      sumOver-const (onRow L E r) 1,
+    )
 
 -- ---- a table changes at the two rows of c
 
@@ -155,61 +137,48 @@ touched-by L c x op {old} z h r =
 -- ---- the tables
 
 -- noting: c joins the erasures from above
-pub counted-more : (L : Layout) (c : ℕ) {E left code : List ℕ} (left' code' : List ℕ) → Counted L E left code → c ∈ places L → ((d : ℕ) → d ∈ E → d < c)
-    → Touched L c (λ y. y + 1) left left' → Touched L c (λ y. y ⊕ codeOf (L .t) c) code code' → Counted L (E ++ (c ∷ [])) left' code'
-counted-more L c {E} {left} {code} left' code' C m above l k =
+pub counted-more : (L : Layout) (c : ℕ) {E tally : List ℕ} (tally' : List ℕ) → Counted L E tally → c ∈ places L → ((d : ℕ) → d ∈ E → d < c)
+    → Touched L c (λ y. y + weight (L .t) c) tally tally' → Counted L (E ++ (c ∷ [])) tally'
+counted-more L c {E} tally' C m above k =
     record {
-      left-long = l .long ∙ C .left-long;
-      code-long = k .long ∙ C .code-long;
+      long = k .long ∙ C .long;
       erased = record {
         rising = rising-append (C .erased .rising) (rising-more (λ d e. absurd (not-nil e)) rising-none)
             (λ a b i j. subst (λ z. a < z) (sym (List·Memᴰ·eq-of-singleton j)) (above a i));
         inside = λ d i. ⊎-elim (C .erased .inside d) (λ j. Memᴰ·cast (List·Memᴰ·eq-of-singleton j) m) (List·Memᴰ·append-cases E i);
       };
-      lefts = λ r h. touched-by L c 1 _+_ add-zero l r ∙ ap (λ y. y + only (meets L c r) 1) (C .lefts r h) ∙ sym (length-onRow-add L E c r);
-      codes = λ r h. touched-by L c (codeOf (L .t) c) _⊕_ ⊕-zero k r ∙ ap (λ y. y ⊕ only (meets L c r) (codeOf (L .t) c)) (C .codes r h)
-          ∙ sym (xor-onRow-add L E c r (codeOf (L .t)));
+      tallies = λ r h. touched-by L c (weight (L .t) c) _+_ add-zero k r ∙ ap (λ y. y + only (meets L c r) (weight (L .t) c)) (C .tallies r h)
+          ∙ sym (sum-onRow-add L E c r (weight (L .t)));
     }
 
 -- the same by stores at the top row and then at the bottom row
-pub counted-add : (L : Layout) → Valid L → (c : ℕ) {E left code : List ℕ} → Counted L E left code → (left₁ left₂ code₁ code₂ : List ℕ)
+pub counted-add : (L : Layout) → Valid L → (c : ℕ) {E tally : List ℕ} → Counted L E tally → (tally₁ tally₂ : List ℕ)
     → c ∈ places L → ((d : ℕ) → d ∈ E → d < c)
-    → left₁ ≡ set left (top L c) (getD left (top L c) 0 + 1) → left₂ ≡ set left₁ (bottom L c) (getD left₁ (bottom L c) 0 + 1)
-    → code₁ ≡ set code (top L c) (getD code (top L c) 0 ⊕ codeOf (L .t) c)
-    → code₂ ≡ set code₁ (bottom L c) (getD code₁ (bottom L c) 0 ⊕ codeOf (L .t) c)
-    → Counted L (E ++ (c ∷ [])) left₂ code₂
-counted-add L ok c {E} {left} {code} C left₁ left₂ code₁ code₂ m above l l' k k' =
-    counted-more L c left₂ code₂ C m above
-    (touched L ok c (λ y. y + 1) left left₁ left₂ (C .left-long) l l')
-    (touched L ok c (λ y. y ⊕ codeOf (L .t) c) code code₁ code₂ (C .code-long) k k')
+    → tally₁ ≡ set tally (top L c) (getD tally (top L c) 0 + weight (L .t) c)
+    → tally₂ ≡ set tally₁ (bottom L c) (getD tally₁ (bottom L c) 0 + weight (L .t) c)
+    → Counted L (E ++ (c ∷ [])) tally₂
+counted-add L ok c {E} {tally} C tally₁ tally₂ m above k k' =
+    counted-more L c tally₂ C m above (touched L ok c (λ y. y + weight (L .t) c) tally tally₁ tally₂ (C .long) k k')
 
--- before any is settled
-pub remaining : {L : Layout} {E left code : List ℕ} → Counted L E left code → Remaining L E left code
-remaining C = record { left-long = C .left-long; code-long = C .code-long; erased = C .erased; lefts = C .lefts; codes = λ r h g. C .codes r h }
-
--- settling: c leaves the erasures, and x is added to its symbol; the code is changed where an erasure is left
-pub picture-less : (L : Layout) (c x : ℕ) {E : List ℕ} {u : ℕ → ℕ} {sum left code : List ℕ} (sum' left' code' : List ℕ)
-    → Picture L E u sum left code → c ∈ E → u c ⊕ x < 256
-    → Touched L c (λ y. y ⊕ x) sum sum' → Touched L c (λ y. y - 1) left left' → length code' ≡ length code
-    → ((r : ℕ) → 0 < length (onRow L (without c E) r) → getD code' r 0 ≡ getD code r 0 ⊕ only (meets L c r) (codeOf (L .t) c))
-    → Picture L (without c E) (update u c (u c ⊕ x)) sum' left' code'
-picture-less L c x {E} {u} {sum} {left} {code} sum' left' code' P m b s l kl k =
+-- settling: c leaves the erasures, and x is added to its symbol
+pub picture-less : (L : Layout) (c x : ℕ) {E : List ℕ} {u : ℕ → ℕ} {sum tally : List ℕ} (sum' tally' : List ℕ)
+    → Picture L E u sum tally → c ∈ E → u c ⊕ x < 256
+    → Touched L c (λ y. y ⊕ x) sum sum' → Touched L c (λ y. y - weight (L .t) c) tally tally'
+    → Picture L (without c E) (update u c (u c ⊕ x)) sum' tally'
+picture-less L c x {E} {u} sum' tally' P m b s k =
     let C = P .counted in
-    let d = rising-distinct (C .erased .rising) in
     record {
       sum-long = s .long ∙ P .sum-long;
       byte = λ a. by-cases (ℕ-discrete a c) (λ e. rw (e, update-same u c (u c ⊕ x)) b) (λ n. rw (update-other u c (u c ⊕ x) n) (P .byte a));
       sums = λ r h. touched-by L c x _⊕_ ⊕-zero s r ∙ ap (λ y. y ⊕ only (meets L c r) x) (P .sums r h)
           ∙ sym (syndrome-change L u (update u c (u c ⊕ x)) c x r (C .erased .inside c m) (update-xor u c x (u c ⊕ x) refl));
       counted = record {
-        left-long = l .long ∙ C .left-long;
-        code-long = kl ∙ C .code-long;
+        long = k .long ∙ C .long;
         erased = record {
           rising = rising-without c (C .erased .rising);
           inside = λ a i. C .erased .inside a (without-∈ c E i .0);
         };
-        lefts = λ r h. touched-by L c 1 _-_ sub-zero l r ∙ ap (λ y. y - only (meets L c r) 1) (C .lefts r h) ∙ sym (length-onRow-without L E c r d m);
-        codes = λ r h g. k r g ∙ ap (λ y. y ⊕ only (meets L c r) (codeOf (L .t) c)) (C .codes r h (omega (arith, g, length-onRow-without L E c r d m)))
-            ∙ sym (xor-onRow-without L E c r (codeOf (L .t)) d m);
+        tallies = λ r h. touched-by L c (weight (L .t) c) _-_ sub-zero k r ∙ ap (λ y. y - only (meets L c r) (weight (L .t) c)) (C .tallies r h)
+            ∙ sym (sum-onRow-without L E c r (weight (L .t)) (rising-distinct (C .erased .rising)) m);
       };
     }

@@ -59,20 +59,20 @@ pub erased-noted : (n t : ℕ) (shifts marks : List ℕ) (a : ℕ) → Erased (l
 erased-noted n t shifts marks a = record { rising = rising-noted n t shifts marks a; inside = λ c m. noted-∈ n t shifts marks a m .0 }
 
 -- the tables count those of them below place c
-pub record Scanned (n t : ℕ) (shifts marks : List ℕ) (a c : ℕ) (left code : List ℕ) : Type 0 where
-  pub seen : Seen n t shifts (toNote n t shifts marks a) c left code
+pub record Scanned (n t : ℕ) (shifts marks : List ℕ) (a c : ℕ) (tally : List ℕ) : Type 0 where
+  pub seen : Seen n t shifts (toNote n t shifts marks a) c tally
 
-pub scanned-at : {n t : ℕ} {shifts marks : List ℕ} {a c d : ℕ} {left code : List ℕ} → c ≡ d → Scanned n t shifts marks a c left code → Scanned n t shifts marks a d left code
+pub scanned-at : {n t : ℕ} {shifts marks : List ℕ} {a c d : ℕ} {tally : List ℕ} → c ≡ d → Scanned n t shifts marks a c tally → Scanned n t shifts marks a d tally
 scanned-at e S = record { seen = seen-at e (S .seen) }
 
 -- the places from c to e are all to be noted, and are noted
-pub scanned-notes : {n t : ℕ} {shifts marks : List ℕ} {a c e : ℕ} {left code left' code' : List ℕ} → Scanned n t shifts marks a c left code
-    → All (toNote n t shifts marks a) c e → Notes n t shifts c e left code left' code' → Scanned n t shifts marks a e left' code'
+pub scanned-notes : {n t : ℕ} {shifts marks : List ℕ} {a c e : ℕ} {tally tally' : List ℕ} → Scanned n t shifts marks a c tally
+    → All (toNote n t shifts marks a) c e → Notes n t shifts c e tally tally' → Scanned n t shifts marks a e tally'
 scanned-notes {n} {t} {shifts} {marks} {a} S A N = record { seen = N .notes (toNote n t shifts marks a) (erased-noted n t shifts marks a) A (S .seen) }
 
 -- from c to c' no place is marked, or it is below a
-pub scanned-skip : {n t : ℕ} {shifts marks : List ℕ} {a c : ℕ} {left code : List ℕ} (c' : ℕ) → Scanned n t shifts marks a c left code
-    → c ≤ c' → ((d : ℕ) → c ≤ d → d < c' → mark marks d ≡ 1 → a ≤ d → ⊥) → Scanned n t shifts marks a c' left code
+pub scanned-skip : {n t : ℕ} {shifts marks : List ℕ} {a c : ℕ} {tally : List ℕ} (c' : ℕ) → Scanned n t shifts marks a c tally
+    → c ≤ c' → ((d : ℕ) → c ≤ d → d < c' → mark marks d ≡ 1 → a ≤ d → ⊥) → Scanned n t shifts marks a c' tally
 scanned-skip {n} {t} {shifts} {marks} {a} c' S g h =
     record { seen = seen-skip c' (S .seen) g (λ d x y i. let o = noted-∈ n t shifts marks a i in h d x y (o .1) (o .2)) }
 
@@ -92,17 +92,17 @@ only-one false x e = absurd (omega arith)
 
 -- The word of marks from place c on. Every place below `next` is seen, and the bits of `rest` are the places from there on that are still to be noted;
 -- the section is one that begins at or before `next`.
-pub record Noting (n t : ℕ) (shifts marks : List ℕ) (a c rest j begin end p : ℕ) (left code : List ℕ) : Type 0 where
+pub record Noting (n t : ℕ) (shifts marks : List ℕ) (a c rest j begin end p : ℕ) (tally : List ℕ) : Type 0 where
   pub next : ℕ
-  pub seen : Scanned n t shifts marks a next left code
+  pub seen : Scanned n t shifts marks a next tally
   pub reached : Reached n t shifts next j begin end p
   pub late : a ≤ next
   pub from-word : c ≤ next
   pub in-word : next ≤ c + 64
   pub word : Word marks next c rest
 
-pub noting-start : {n t : ℕ} {shifts marks : List ℕ} {a c w j begin end p : ℕ} {left code : List ℕ} → Scanned n t shifts marks a c left code
-    → Reached n t shifts c j begin end p → a ≤ c + 64 → Word marks a c w → Noting n t shifts marks a c w j begin end p left code
+pub noting-start : {n t : ℕ} {shifts marks : List ℕ} {a c w j begin end p : ℕ} {tally : List ℕ} → Scanned n t shifts marks a c tally
+    → Reached n t shifts c j begin end p → a ≤ c + 64 → Word marks a c w → Noting n t shifts marks a c w j begin end p tally
 noting-start {a = a} {c = c} S R h W =
     by-cases (decLt c a)
     (λ l. record {
@@ -124,8 +124,8 @@ noting-start {a = a} {c = c} S R h W =
       word = word-late c W (omega arith) (omega arith);
     })
 
-module _ {n t : ℕ} {shifts marks : List ℕ} {a c rest j begin end p : ℕ} {left code : List ℕ}
-    (G : Noting n t shifts marks a c rest j begin end p left code) where
+module _ {n t : ℕ} {shifts marks : List ℕ} {a c rest j begin end p : ℕ} {tally : List ℕ}
+    (G : Noting n t shifts marks a c rest j begin end p tally) where
   -- a place whose bit is 0 is not marked
   no-mark : (d : ℕ) → G .next ≤ d → d < c + 64 → bitOf (d - c) rest ≡ 0 → mark marks d ≡ 1 → ⊥
   no-mark d h l z m =
@@ -137,7 +137,7 @@ module _ {n t : ℕ} {shifts marks : List ℕ} {a c rest j begin end p : ℕ} {l
       omega (arith, sym z ∙ q ∙ o)
 
   -- none is left
-  pub noting-done : rest ≡ 0 → Scanned n t shifts marks a (c + 64) left code
+  pub noting-done : rest ≡ 0 → Scanned n t shifts marks a (c + 64) tally
   noting-done z =
       scanned-skip (c + 64) (G .seen) (G .in-word)
       (λ d x y m l. no-mark d x y (ap (bitOf (d - c)) z ∙ bit-beyond 0 (d - c) 0 (omega arith) (omega arith)) m)
@@ -172,12 +172,12 @@ module _ {n t : ℕ} {shifts marks : List ℕ} {a c rest j begin end p : ℕ} {l
         let m : mark marks d ≡ 1 = ap (mark marks) (sym e) ∙ its-mark .1 in
         ∈-noted n t shifts marks a (∈-sized (lent .sized) (marked-inside lent d m)) m (omega (arith, noting-late))
 
-    its-scanned : Scanned n t shifts marks a (c + trailingZeros 64 rest) left code
+    its-scanned : Scanned n t shifts marks a (c + trailingZeros 64 rest) tally
     its-scanned =
         scanned-skip (c + trailingZeros 64 rest) (G .seen) after
         (λ d x y m l. no-mark d x (omega (arith, noting-bit)) (zeros-below 64 rest (d - c) (omega (arith, G .from-word))) m)
 
-    pub noting-due : Lent n t shifts marks → Due n t shifts (c + trailingZeros 64 rest) (c + trailingZeros 64 rest + 1) left code
+    pub noting-due : Lent n t shifts marks → Due n t shifts (c + trailingZeros 64 rest) (c + trailingZeros 64 rest + 1) tally
     noting-due lent =
         record {
           sized = lent .sized;
@@ -188,10 +188,10 @@ module _ {n t : ℕ} {shifts marks : List ℕ} {a c rest j begin end p : ℕ} {l
         }
 
     -- it is noted, and cleared in the word
-    pub noting-more : {j' begin' end' p' : ℕ} {left' code' : List ℕ} → Lent n t shifts marks
-        → Notes n t shifts (c + trailingZeros 64 rest) (c + trailingZeros 64 rest + 1) left code left' code'
+    pub noting-more : {j' begin' end' p' : ℕ} {tally' : List ℕ} → Lent n t shifts marks
+        → Notes n t shifts (c + trailingZeros 64 rest) (c + trailingZeros 64 rest + 1) tally tally'
         → Reached n t shifts (c + trailingZeros 64 rest) j' begin' end' p'
-        → Noting n t shifts marks a c (bitAnd rest (rest - 1)) j' begin' end' p' left' code'
+        → Noting n t shifts marks a c (bitAnd rest (rest - 1)) j' begin' end' p' tally'
     noting-more lent N R =
         let z : ℕ = trailingZeros 64 rest in
         record {
@@ -210,25 +210,25 @@ module _ {n t : ℕ} {shifts marks : List ℕ} {a c rest j begin end p : ℕ} {l
           };
         }
 
-pub scanned-start : {n t : ℕ} {shifts : List ℕ} (marks : List ℕ) (a : ℕ) {left code : List ℕ} → left ≡ replicate (2 * t) 0 → code ≡ replicate (2 * t) 0
-    → Scanned n t shifts marks a 0 left code
-scanned-start {n} {t} {shifts} marks a l k = record { seen = seen-start (toNote n t shifts marks a) l k }
+pub scanned-start : {n t : ℕ} {shifts : List ℕ} (marks : List ℕ) (a : ℕ) {tally : List ℕ} → tally ≡ replicate (2 * t) 0
+    → Scanned n t shifts marks a 0 tally
+scanned-start {n} {t} {shifts} marks a k = record { seen = seen-start (toNote n t shifts marks a) k }
 
 -- the scan begins at the word of place a
-pub scanned-first : {n t : ℕ} {shifts marks : List ℕ} {a : ℕ} {left code : List ℕ} (c : ℕ) → c ≤ a → Scanned n t shifts marks a 0 left code
-    → Scanned n t shifts marks a c left code
+pub scanned-first : {n t : ℕ} {shifts marks : List ℕ} {a : ℕ} {tally : List ℕ} (c : ℕ) → c ≤ a → Scanned n t shifts marks a 0 tally
+    → Scanned n t shifts marks a c tally
 scanned-first c h S = scanned-skip c S (omega arith) (λ d x y m l. omega arith)
 
 -- words of zeros are passed
-pub scanned-clear : {n t : ℕ} {shifts marks : List ℕ} {a i r : ℕ} {left code : List ℕ} → Clear marks i r
-    → Scanned n t shifts marks a (8 * i) left code → Scanned n t shifts marks a (8 * r) left code
+pub scanned-clear : {n t : ℕ} {shifts marks : List ℕ} {a i r : ℕ} {tally : List ℕ} → Clear marks i r
+    → Scanned n t shifts marks a (8 * i) tally → Scanned n t shifts marks a (8 * r) tally
 scanned-clear {r = r} C S = scanned-skip (8 * r) S (omega (arith, C .order)) (λ d x y m l. omega (arith, sym (C .none d x y) ∙ m))
 
 pub words-end : {n t : ℕ} {shifts marks : List ℕ} → Lent n t shifts marks → (i : ℕ) → length marks ≤ i → n * t ≤ 8 * i
 words-end lent i h = omega (arith, lent .marks-long)
 
 -- the scan has passed the last word
-pub scanned-end : {n t : ℕ} {shifts marks : List ℕ} {a c : ℕ} {left code : List ℕ} → Lent n t shifts marks
-    → Scanned n t shifts marks a c left code → n * t ≤ c → Counted (layout n t shifts) (fromPlace a (erasures (layout n t shifts) marks)) left code
+pub scanned-end : {n t : ℕ} {shifts marks : List ℕ} {a c : ℕ} {tally : List ℕ} → Lent n t shifts marks
+    → Scanned n t shifts marks a c tally → n * t ≤ c → Counted (layout n t shifts) (fromPlace a (erasures (layout n t shifts) marks)) tally
 unfolding toNote
 scanned-end {n} {t} {shifts} {marks} {a} lent S h = seen-all (lent .sized) (erased-noted n t shifts marks a) (S .seen) h

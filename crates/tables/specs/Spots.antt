@@ -1,17 +1,18 @@
 -- A place with its section and offset, as a walk carries them.
--- Main results: the section, the rows and the code of a place where a walk stands, and the section that a scan has reached.
-use mathlib.Core.Path.{_≡_, sym}
+-- Main results: the section, the rows and the weight of a place where a walk stands, and the section that a scan has reached.
+use mathlib.Core.Path.{_≡_, ap}
 use mathlib.Core.Logic.{by-cases}
 use mathlib.Core.List.{List}
 use Prim.Native.Nat.{ℕ, _+_, _-_, _*_, _/_, _%_, _≤_, _<_}
-use native.Mathlib.Nat.{mod-lt, add-mod-right, mod-eq-of-lt, div-lt-iff-lt-mul, mul-le-mul-right, suc-mul}
+use native.Mathlib.Nat.{add-mod-right, mod-eq-of-lt, div-lt-iff-lt-mul, mul-le-mul-right, suc-mul}
 use native.Mathlib.Numerals.{add-one}
 use native.Mathlib.Decide.{decLt}
 use native.Mathlib.Omega.{arith}
 use lib.Arith.{digits-div, digits-mod}
 use lib.ListN.{getD}
+use Rattle.math.specs.Residues.{back-injective}
 use Rattle.plan.specs.Layout.{layout, top, bottom, topRow, bottomRow}
-use Rattle.tables.specs.Picture.{codeOf}
+use Rattle.tables.specs.Picture.{weight}
 
 -- place c is symbol k of section j
 pub record Stands (t c j k : ℕ) : Type 0 where
@@ -38,9 +39,9 @@ module _ {t c j k : ℕ} (s : Stands t c j k) where
   unfolding layout bottom
   stands-bottom n shifts = rw (stands-section, stands-offset)
 
-  pub stands-code : codeOf t c ≡ j * 2048 + k
-  unfolding codeOf
-  stands-code = rw (stands-section, stands-offset)
+  pub stands-weight : weight t c ≡ 1024 + j
+  unfolding weight
+  stands-weight = ap (λ i. 1024 + i) stands-section
 
 -- the bottom row with no division
 pub bottom-low : (t p k : ℕ) → k < t → p ≤ k → bottomRow t p k ≡ t + (k - p)
@@ -52,6 +53,11 @@ bottom-low t p k l h =
 pub bottom-high : (t p k : ℕ) → p < t → k < p → bottomRow t p k ≡ t + (k + t - p)
 unfolding bottomRow
 bottom-high t p k l h = rw (mod-eq-of-lt {n = k + t - p} {m = t} (omega arith))
+
+-- no two places of a section share a bottom row
+pub bottom-injective : {t p k k' : ℕ} → p < t → k < t → k' < t → bottomRow t p k ≡ bottomRow t p k' → k ≡ k'
+unfolding bottomRow
+bottom-injective {p = p} h l l' e = back-injective {p = p} (omega arith) l l' (omega (arith, e))
 
 -- a scan that has come to place c knows of a section j that begins at or before it: its first place, the place after its last, its shift
 pub record Reached (n t : ℕ) (shifts : List ℕ) (c j begin end p : ℕ) : Type 0 where

@@ -3,14 +3,13 @@
 use mathlib.Core.Path.{_≡_, refl, sym, _∙_, ap, subst}
 use mathlib.Core.Bool.{true}
 use mathlib.Core.List.{List}
-use Prim.Native.Nat.{ℕ, zero, suc, _+_, _-_, _*_, _%_, _^_, _≤_, _<_}
+use Prim.Native.Nat.{ℕ, zero, suc, _+_, _-_, _*_, _^_, _≤_, _<_}
 use native.Mathlib.Nat.{mod-lt}
 use native.Mathlib.Numerals.{add-one}
 use native.Mathlib.Omega.{arith}
 use borrow.Author.Tests.{leb-true}
 use lib.Dec.{leb}
 use lib.ListN.{getD, set}
-use Rattle.math.specs.Xor.{_⊕_}
 use Rattle.plan.specs.Layout.{bottomRow}
 use Rattle.code.specs.Codewords.{bitOf}
 use Rattle.code.specs.Marks.{mark}
@@ -23,12 +22,9 @@ use Rattle.tables.specs.Spots.{Stands, Reached, bottom-low, bottom-high}
 use Rattle.tables.specs.Counting.{All, Due, Notes, Ready, Noted, noted, due-inside, due-here, due-long, notes-none, notes-at, notes-then, noted-notes}
 use Rattle.tables.specs.Scan.{Lent, Scanned, toNote, erased-noted, scanned-notes, ∈-noted, marked-inside, only-one}
 
--- the changes at the i-th of the places: of the erasures left, and of the codes
-abbrev pub oneMore : ℕ → ℕ → ℕ
-oneMore i x = x + 1
-
-abbrev pub withCode : ℕ → ℕ → ℕ → ℕ
-withCode q i x = x ⊕ (q + i)
+-- the change at each of the places: weight w is added
+abbrev pub added : ℕ → ℕ → ℕ → ℕ
+added w i x = x + w
 
 -- m offsets from k on of a section with shift p: their bottom rows follow on each other
 pub record Stretch (t p k m : ℕ) : Type 0 where
@@ -59,39 +55,33 @@ stretch-apart {t} {p} {k} {m} S h =
     record { order = omega (arith, S .within); end = omega (arith, S .straight (m - 1) (omega arith), mod-lt (k + (m - 1) + t - p) g) }
 
 -- what noting them does
-pub record Run (t p j k m : ℕ) (left code left' code' : List ℕ) : Type 0 where
-  pub lefts : Swept oneMore k (bottomRow t p k) m left left'
-  pub codes : Swept (withCode (j * 2048 + k)) k (bottomRow t p k) m code code'
+pub record Run (t p j k m : ℕ) (tally tally' : List ℕ) : Type 0 where
+  pub swept : Swept (added (1024 + j)) k (bottomRow t p k) m tally tally'
 
--- what the sweeps need, at rows h and b and code q
-module _ {t p j k m : ℕ} {left code : List ℕ} (E : Ready t p j k left code) (X : Stretch t p k m) where
+-- what the sweep needs, at rows h and b and weight w
+module _ {t p j k m : ℕ} {tally : List ℕ} (E : Ready t p j k tally) (X : Stretch t p k m) where
   pub run-apart : {h b l : ℕ} → 0 < m → h ≡ k → b ≡ bottomRow t p k → l ≡ 2 * t → Apart h b m l
   run-apart g eh eb el = let A = stretch-apart X g in record { order = omega (arith, A .order); end = omega (arith, A .end) }
 
-  pub run-code : {q : ℕ} → q ≡ j * 2048 + k → q + m ≤ 65536
-  run-code e = omega (arith, E .section, E .t-max, X .within)
+  pub run-room : {w : ℕ} → w ≡ 1024 + j → Room w tally
+  run-room e = record { each = λ r h. omega (arith, E .room r (omega (arith, E .long)), E .section) }
 
-  pub run-room : Room left
-  run-room = record { each = λ r h. E .room r (omega (arith, E .left-long)) }
-
-pub run : {t p j k m h b q : ℕ} {left code left' code' : List ℕ} → h ≡ k → b ≡ bottomRow t p k → q ≡ j * 2048 + k
-    → Swept oneMore h b m left left' → Swept (withCode q) h b m code code' → Run t p j k m left code left' code'
-run eh eb eq l c = record { lefts = rw (eh, eb) at l; codes = rw (eh, eb, eq) at c }
+pub run : {t p j k m h b w : ℕ} {tally tally' : List ℕ} → h ≡ k → b ≡ bottomRow t p k → w ≡ 1024 + j
+    → Swept (added w) h b m tally tally' → Run t p j k m tally tally'
+run eh eb ew l = record { swept = rw (eh, eb, ew) at l }
 
 -- the first i of them noted, one after the other
-record Done (n t : ℕ) (shifts : List ℕ) (c p j k i : ℕ) (left code : List ℕ) : Type 0 where
-  left' : List ℕ
-  code' : List ℕ
-  lefts : Swept oneMore k (bottomRow t p k) i left left'
-  codes : Swept (withCode (j * 2048 + k)) k (bottomRow t p k) i code code'
-  notes : Notes n t shifts c (c + i) left code left' code'
+record Done (n t : ℕ) (shifts : List ℕ) (c p j k i : ℕ) (tally : List ℕ) : Type 0 where
+  tally' : List ℕ
+  swept : Swept (added (1024 + j)) k (bottomRow t p k) i tally tally'
+  notes : Notes n t shifts c (c + i) tally tally'
 
-module _ {n t : ℕ} {shifts : List ℕ} {c j begin end p m : ℕ} {left code : List ℕ} (D : Due n t shifts c (c + m) left code)
+module _ {n t : ℕ} {shifts : List ℕ} {c j begin end p m : ℕ} {tally : List ℕ} (D : Due n t shifts c (c + m) tally)
     (R : Reached n t shifts c j begin end p) (X : Stretch t p (c - begin) m) (some : 0 < m) where
   pub stretch-fits : c + m ≤ n * t
   stretch-fits = due-inside D (omega arith)
 
-  pub stretch-ready : Ready t p j (c - begin) left code
+  pub stretch-ready : Ready t p j (c - begin) tally
   stretch-ready = due-here D (omega arith) R (omega (arith, R .ends, R .passed, X .within))
 
   k : ℕ
@@ -101,16 +91,14 @@ module _ {n t : ℕ} {shifts : List ℕ} {c j begin end p m : ℕ} {left code : 
   b = bottomRow t p (c - begin)
 
   Here : ℕ → Type 0
-  Here i = Done n t shifts c p j (c - begin) i left code
+  Here i = Done n t shifts c p j (c - begin) i tally
 
   none : Here 0
   unfolding Here
   none =
       record {
-        left' = left;
-        code' = code;
-        lefts = swept-none oneMore (c - begin) (bottomRow t p (c - begin)) left;
-        codes = swept-none (withCode (j * 2048 + (c - begin))) (c - begin) (bottomRow t p (c - begin)) code;
+        tally' = tally;
+        swept = swept-none (added (1024 + j)) (c - begin) (bottomRow t p (c - begin)) tally;
         notes = notes-at (omega arith) notes-none;
       }
 
@@ -118,10 +106,8 @@ module _ {n t : ℕ} {shifts : List ℕ} {c j begin end p m : ℕ} {left code : 
   unfolding Here k b
   more i h O =
       record {
-        left' = left₂;
-        code' = code₂;
-        lefts = swept-more left₁ left₂ (O .lefts) high (low (due-long D .0)) refl refl;
-        codes = swept-more code₁ code₂ (O .codes) high (low (due-long D .1)) refl refl;
+        tally' = tally₂;
+        swept = swept-more tally₁ tally₂ (O .swept) high (low (due-long D)) refl refl;
         notes = notes-at (omega arith) (notes-then (omega arith) (omega arith) (O .notes) (noted-notes (D .sized) st note));
       }
     where
@@ -134,44 +120,34 @@ module _ {n t : ℕ} {shifts : List ℕ} {c j begin end p m : ℕ} {left code : 
       low : {l : ℕ} → l ≡ 2 * t → b + i < l
       low e = omega (arith, A .end)
 
-      q : ℕ
-      q = j * 2048 + (c - begin) + i
+      tally₁ : List ℕ
+      tally₁ = set (O .tally') (k + i) (getD (O .tally') (k + i) 0 + (1024 + j))
 
-      left₁ : List ℕ
-      left₁ = set (O .left') (k + i) (getD (O .left') (k + i) 0 + 1)
-
-      left₂ : List ℕ
-      left₂ = set left₁ (b + i) (getD left₁ (b + i) 0 + 1)
-
-      code₁ : List ℕ
-      code₁ = set (O .code') (k + i) (getD (O .code') (k + i) 0 ⊕ q)
-
-      code₂ : List ℕ
-      code₂ = set code₁ (b + i) (getD code₁ (b + i) 0 ⊕ q)
+      tally₂ : List ℕ
+      tally₂ = set tally₁ (b + i) (getD tally₁ (b + i) 0 + (1024 + j))
 
       st : Stands t (c + i) j (k + i)
       st = record { whole = omega (arith, R .begins, R .passed); within = omega (arith, X .within) }
 
-      plain : Noted t p j (k + i) (O .left') (O .code') left₂ code₂
-      plain = let e : q ≡ j * 2048 + (k + i) = omega arith in noted refl (sym (X .straight i h)) e refl refl refl refl
+      plain : Noted t p j (k + i) (O .tally') tally₂
+      plain = noted refl (sym (X .straight i h)) refl refl refl
 
-      note : Noted t (getD shifts j 0) j (k + i) (O .left') (O .code') left₂ code₂
-      note = subst (λ z. Noted t z j (k + i) (O .left') (O .code') left₂ code₂) (R .shift) plain
+      note : Noted t (getD shifts j 0) j (k + i) (O .tally') tally₂
+      note = subst (λ z. Noted t z j (k + i) (O .tally') tally₂) (R .shift) plain
 
   upto : (i : ℕ) → i ≤ m → Here i
   upto zero h = none
   upto (suc i) h = subst Here (add-one i) (more i (omega arith) (upto i (omega arith)))
 
   -- the sweeps note them all
-  pub run-notes : {left' code' : List ℕ} → Run t p j (c - begin) m left code left' code' → Notes n t shifts c (c + m) left code left' code'
+  pub run-notes : {tally' : List ℕ} → Run t p j (c - begin) m tally tally' → Notes n t shifts c (c + m) tally tally'
   unfolding Here
-  run-notes {left'} {code'} U =
-      let O : Done n t shifts c p j (c - begin) m left code = upto m (omega arith) in
-      subst (λ z. Notes n t shifts c (c + m) left code z code') (swept-same (O .lefts) (U .lefts))
-      (subst (λ z. Notes n t shifts c (c + m) left code (O .left') z) (swept-same (O .codes) (U .codes)) (O .notes))
+  run-notes {tally'} U =
+      let O : Done n t shifts c p j (c - begin) m tally = upto m (omega arith) in
+      subst (λ z. Notes n t shifts c (c + m) tally z) (swept-same (O .swept) (U .swept)) (O .notes)
 
 -- a word of ones: all its places are to be noted
-module _ {n t : ℕ} {shifts marks : List ℕ} {a c w : ℕ} {left code : List ℕ} (lent : Lent n t shifts marks) (S : Scanned n t shifts marks a c left code)
+module _ {n t : ℕ} {shifts marks : List ℕ} {a c w : ℕ} {tally : List ℕ} (lent : Lent n t shifts marks) (S : Scanned n t shifts marks a c tally)
     (W : Word marks a c w) (e : w ≡ 2 ^ 64 - 1) where
   bit : (b : ℕ) → b < 64 → (leb a (c + b) ≡ true) × (mark marks (c + b) ≡ 1)
   bit b h =
@@ -185,8 +161,8 @@ module _ {n t : ℕ} {shifts marks : List ℕ} {a c w : ℕ} {left code : List �
       let m : mark marks d ≡ 1 = ap (mark marks) (sym q) ∙ o .1 in
       ∈-noted n t shifts marks a (∈-sized (lent .sized) (marked-inside lent d m)) m (omega (arith, leb-true a (c + (d - c)) (o .0)))
 
-  pub ones-due : Due n t shifts c (c + 64) left code
+  pub ones-due : Due n t shifts c (c + 64) tally
   ones-due = record { sized = lent .sized; E = toNote n t shifts marks a; erased = erased-noted n t shifts marks a; all = ones-all; seen = S .seen }
 
-  pub ones-noted : {left' code' : List ℕ} → Notes n t shifts c (c + 64) left code left' code' → Scanned n t shifts marks a (c + 64) left' code'
+  pub ones-noted : {tally' : List ℕ} → Notes n t shifts c (c + 64) tally tally' → Scanned n t shifts marks a (c + 64) tally'
   ones-noted N = scanned-notes S ones-all N

@@ -16,8 +16,8 @@ use Rattle.math.specs.Members.{_∈_, keep, without, Rising, Distinct, distinct
 use Rattle.math.specs.MembersLaws.{by-test, by-place, decIn, ∈-keep, keep-∈, keep-split, distinct-keep, length-keep-le, length-without, without-∈, rising-distinct}
 use Rattle.math.specs.Pigeonhole.{getD-∈, ∈-getD, distinct-length, distinct-covers, findIn}
 use Rattle.math.specs.Xor.{_⊕_, ⊕-zero, ⊕-self, ⊕-self-left}
-use Rattle.math.specs.Sums.{xorOver, sumOver, only}
-use Rattle.math.specs.SumsLaws.{only-true, only-false, sumOver-ext, sumOver-zero, sumOver-add, sumOver-const, sumOver-keep, sumOver-le, length-keep-sum, xorOver-two}
+use Rattle.math.specs.Sums.{sumOver, only}
+use Rattle.math.specs.SumsLaws.{only-true, only-false, sumOver-ext, sumOver-zero, sumOver-add, sumOver-const, sumOver-keep, sumOver-le, length-keep-sum, sumOver-two}
 use Rattle.plan.specs.Layout.{Layout, Valid, top, bottom}
 use Rattle.code.specs.Places.{places, rows, Meets, meets}
 use Rattle.code.specs.Codewords.{at, syndrome}
@@ -68,7 +68,7 @@ unfolding onRow
 length-onRow-le L E r = length-keep-le (λ c. meets L c r) E
 
 -- a member makes a list longer than 0
-∈-length : {c : ℕ} {l : List ℕ} → c ∈ l → 0 < length l
+pub ∈-length : {c : ℕ} {l : List ℕ} → c ∈ l → 0 < length l
 ∈-length (first e) = omega arith
 ∈-length (later m) = omega arith
 
@@ -274,9 +274,9 @@ module _ (L : Layout) {E : List ℕ} {c d : ℕ} (r : ℕ) (once-each : Distinct
       (omega arith) e m) inl
       (λ i. by-place i inr (λ k. absurd (List·Memᴰ·not-nil k)))
 
-  pub pair-sum : (f : ℕ → ℕ) → xorOver (onRow L E r) f ≡ f c ⊕ f d
+  pub pair-sum : (f : ℕ → ℕ) → sumOver (onRow L E r) f ≡ f c + f d
   pair-sum f =
-      xorOver-two f (distinct-onRow L r once-each) (∈-onRow L c-in c-on) (∈-onRow L d-in d-on) differ
+      sumOver-two f (distinct-onRow L r once-each) (∈-onRow L c-in c-on) (∈-onRow L d-in d-on) differ
       (λ e m a b. ⊎-elim (λ q. absurd (a q)) (λ q. absurd (b q)) (pair-only e m))
 
 -- two places of a cycle that share a row, where the row has no others
@@ -288,18 +288,18 @@ module _ {L : Layout} {E l : List ℕ} {i j : ℕ} (row : ℕ → ℕ) (on : (c 
   shared : Meets L (at l j) (row (at l i))
   shared = subst (λ r. Meets L (at l j) r) (sym (ms .same)) (on (at l j))
 
-  pub mates-sum : (f : ℕ → ℕ) → xorOver (onRow L E (row (at l i))) f ≡ f (at l i) ⊕ f (at l j)
+  pub mates-sum : (f : ℕ → ℕ) → sumOver (onRow L E (row (at l i))) f ≡ f (at l i) + f (at l j)
   mates-sum = pair-sum L (row (at l i)) (rising-distinct up) (cy .inside i (ms .left)) (cy .inside j (ms .right)) apart (on (at l i)) shared two
 
 module _ {L : Layout} {E l : List ℕ} (up : Rising E) (cy : Cycle L E l) where
   pub top-next : (i : ℕ) → i < cy .half → length (onRow L E (top L (at l (2 * i)))) ≡ 2
-      → (f : ℕ → ℕ) → xorOver (onRow L E (top L (at l (2 * i)))) f ≡ f (at l (2 * i)) ⊕ f (at l (2 * i + 1))
+      → (f : ℕ → ℕ) → sumOver (onRow L E (top L (at l (2 * i)))) f ≡ f (at l (2 * i)) + f (at l (2 * i + 1))
   top-next i h = mates-sum (top L) (λ c. inl refl) up cy (top-mates cy i h)
 
   pub bottom-next : (i : ℕ) → i + 1 < cy .half → length (onRow L E (bottom L (at l (2 * i + 1)))) ≡ 2
-      → (f : ℕ → ℕ) → xorOver (onRow L E (bottom L (at l (2 * i + 1)))) f ≡ f (at l (2 * i + 1)) ⊕ f (at l (2 * i + 2))
+      → (f : ℕ → ℕ) → sumOver (onRow L E (bottom L (at l (2 * i + 1)))) f ≡ f (at l (2 * i + 1)) + f (at l (2 * i + 2))
   bottom-next i h = mates-sum (bottom L) (λ c. inr refl) up cy (bottom-mates cy i h)
 
   pub last-next : length (onRow L E (bottom L (at l (length l - 1)))) ≡ 2
-      → (f : ℕ → ℕ) → xorOver (onRow L E (bottom L (at l (length l - 1)))) f ≡ f (at l (length l - 1)) ⊕ f (at l 0)
+      → (f : ℕ → ℕ) → sumOver (onRow L E (bottom L (at l (length l - 1)))) f ≡ f (at l (length l - 1)) + f (at l 0)
   last-next = mates-sum (bottom L) (λ c. inr refl) up cy (last-mates cy)

@@ -202,12 +202,12 @@ swept-lent {f} {a} {b} {m} {old} part₁ mid part₂ new A q₁ X₁ q₂ X₂ =
     let Q : PartMapped f b (b + m) mid new = part-mapped b (b + m) mid part₂ new (omega arith) (omega (arith, P .long, A .end)) q₂ X₂ in
     swept-parts mid new A P Q
 
--- each entry can be raised
-pub record Room (s : List ℕ) : Type 0 where
-  pub each : (r : ℕ) → r < length s → getD s r 0 + 1 < 256
+-- w can be added to each entry
+pub record Room (w : ℕ) (s : List ℕ) : Type 0 where
+  pub each : (r : ℕ) → r < length s → getD s r 0 + w < 65536
 
-pub room-part : (a m : ℕ) {s : List ℕ} → Room s → a + m ≤ length s → Room (take (a + m - a) (drop a s))
-room-part a m {s} R h =
+pub room-part : (a m : ℕ) {w : ℕ} {s : List ℕ} → Room w s → a + m ≤ length s → Room w (take (a + m - a) (drop a s))
+room-part a m {w} {s} R h =
     let l : length (take (a + m - a) (drop a s)) ≡ a + m - a = length-take-le (a + m - a) (drop a s) (rw (length-drop a s) (omega arith)) in
     record {
       each = λ r g.
@@ -217,9 +217,9 @@ room-part a m {s} R h =
     }
 
 -- the second part is as it was when the first has come back
-pub room-second : {f : ℕ → ℕ → ℕ} {a b m : ℕ} {old : List ℕ} (part₁ mid : List ℕ) → Room old → Apart a b m (length old)
-    → mid ≡ take a old ++ (part₁ ++ drop (a + m - a) (drop a old)) → Mapped f (take (a + m - a) (drop a old)) part₁ → Room (take (b + m - b) (drop b mid))
-room-second {f} {a} {b} {m} {old} part₁ mid R A q X =
+pub room-second : {f : ℕ → ℕ → ℕ} {a b m w : ℕ} {old : List ℕ} (part₁ mid : List ℕ) → Room w old → Apart a b m (length old)
+    → mid ≡ take a old ++ (part₁ ++ drop (a + m - a) (drop a old)) → Mapped f (take (a + m - a) (drop a old)) part₁ → Room w (take (b + m - b) (drop b mid))
+room-second {f} {a} {b} {m} {w} {old} part₁ mid R A q X =
     let P : PartMapped f a (a + m) old mid = part-mapped a (a + m) old part₁ mid (omega arith) (omega (arith, A .order, A .end)) q X in
     let l : length (take (b + m - b) (drop b mid)) ≡ b + m - b = length-take-le (b + m - b) (drop b mid) (rw (length-drop b mid) (omega (arith, P .long, A .end))) in
     record {

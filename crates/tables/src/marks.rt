@@ -10,10 +10,10 @@ ghost use Rattle.tables.specs.Stretches.{Stretch};
 ghost use Rattle.tables.specs.Counting.{Due, Notes, Noted, Ready, fromPlace};
 ghost use Rattle.tables.specs.Scan.{Lent, Scanned};
 ghost use Rattle.tables.specs.Words.{Word};
-use crate::packed::pack;
 use crate::rows::bottom;
 use crate::rows::put_in;
 use crate::rows::top;
+use crate::rows::weight;
 use crate::sweep::note_run;
 use crate::walk::Section;
 use crate::walk::Spot;
@@ -42,15 +42,15 @@ pub fn clear_words(s: &mut [u16])
 }
 
 // Notes the place of the spot; p is the shift of its section.
-fn note(t: usize, p: usize, spot: Spot, left: &mut [u8], code: &mut [u16])
-    requires { ⌜ Ready t p (spot .section) (spot .offset) (now left) (now code) ⌝ }
-    ensures { λ _. ⌜ Noted t p (spot .section) (spot .offset) (now (left .entry)) (now (code .entry)) (now (left .exit)) (now (code .exit)) ⌝ }
+fn note(t: usize, p: usize, spot: Spot, tally: &mut [u16])
+    requires { ⌜ Ready t p (spot .section) (spot .offset) (now tally) ⌝ }
+    ensures { λ _. ⌜ Noted t p (spot .section) (spot .offset) (now (tally .entry)) (now (tally .exit)) ⌝ }
 {
-    let c = pack(spot.section, spot.offset);
+    let w = weight(spot.section);
     let high = top(spot);
     let low = bottom(spot, t, p);
-    put_in(&mut left[..], &mut code[..], high, c);
-    put_in(&mut left[..], &mut code[..], low, c);
+    put_in(&mut tally[..], high, w);
+    put_in(&mut tally[..], low, w);
 }
 
 // Notes place c, and gives its section.
@@ -60,12 +60,11 @@ fn note_next(
     shifts: &[u16],
     c: usize,
     at: Section,
-    left: &mut [u8],
-    code: &mut [u16],
+    tally: &mut [u16],
 ) -> Section
-    requires { ⌜ Due n t (now shifts) c (c + 1) (now left) (now code) ⌝ }
+    requires { ⌜ Due n t (now shifts) c (c + 1) (now tally) ⌝ }
     requires { ⌜ Reached n t (now shifts) c (at .index) (at .begin) (at .end) (at .shift) ⌝ }
-    ensures { λ _. ⌜ Notes n t (now (shifts .entry)) c (c + 1) (now (left .entry)) (now (code .entry)) (now (left .exit)) (now (code .exit)) ⌝ }
+    ensures { λ _. ⌜ Notes n t (now (shifts .entry)) c (c + 1) (now (tally .entry)) (now (tally .exit)) ⌝ }
     ensures { λ r. ⌜ Reached n t (now (shifts .entry)) c (r .index) (r .begin) (r .end) (r .shift) ⌝ }
 {
     let here = at.reach(n, t, shifts, c);
@@ -74,7 +73,7 @@ fn note_next(
         section: here.index,
         offset: c - here.begin,
     };
-    note(t, here.shift, spot, &mut left[..], &mut code[..]);
+    note(t, here.shift, spot, &mut tally[..]);
     here
 }
 
@@ -86,19 +85,18 @@ fn note_stretch(
     c: usize,
     m: usize,
     at: Section,
-    left: &mut [u8],
-    code: &mut [u16],
+    tally: &mut [u16],
 )
-    requires { ⌜ Due n t (now shifts) c (c + m) (now left) (now code) × (0 < m) ⌝ }
+    requires { ⌜ Due n t (now shifts) c (c + m) (now tally) × (0 < m) ⌝ }
     requires { ⌜ Reached n t (now shifts) c (at .index) (at .begin) (at .end) (at .shift) × Stretch t (at .shift) (c - at .begin) m ⌝ }
-    ensures { λ _. ⌜ Notes n t (now (shifts .entry)) c (c + m) (now (left .entry)) (now (code .entry)) (now (left .exit)) (now (code .exit)) ⌝ }
+    ensures { λ _. ⌜ Notes n t (now (shifts .entry)) c (c + m) (now (tally .entry)) (now (tally .exit)) ⌝ }
 {
     let spot = Spot {
         place: Place(c as u16),
         section: at.index,
         offset: c - at.begin,
     };
-    note_run(t, at.shift, m, spot, &mut left[..], &mut code[..]);
+    note_run(t, at.shift, m, spot, &mut tally[..]);
 }
 
 // Notes all places from c to end, and gives the section that it comes to.
@@ -109,12 +107,11 @@ pub fn note_places(
     c: usize,
     end: usize,
     at: Section,
-    left: &mut [u8],
-    code: &mut [u16],
+    tally: &mut [u16],
 ) -> Section
-    requires { ⌜ Due n t (now shifts) c end (now left) (now code) × (c ≤ end) ⌝ }
+    requires { ⌜ Due n t (now shifts) c end (now tally) × (c ≤ end) ⌝ }
     requires { ⌜ Reached n t (now shifts) c (at .index) (at .begin) (at .end) (at .shift) ⌝ }
-    ensures { λ _. ⌜ Notes n t (now (shifts .entry)) c end (now (left .entry)) (now (code .entry)) (now (left .exit)) (now (code .exit)) ⌝ }
+    ensures { λ _. ⌜ Notes n t (now (shifts .entry)) c end (now (tally .entry)) (now (tally .exit)) ⌝ }
     ensures { λ r. ⌜ Reached n t (now (shifts .entry)) end (r .index) (r .begin) (r .end) (r .shift) ⌝ }
 {
     let mut here = at;
@@ -122,7 +119,7 @@ pub fn note_places(
     while d < end {
         here = here.reach(n, t, shifts, d);
         let m = here.stretch(n, t, shifts, d, end);
-        note_stretch(n, t, shifts, d, m, here, &mut left[..], &mut code[..]);
+        note_stretch(n, t, shifts, d, m, here, &mut tally[..]);
         d += m;
     }
     here
@@ -138,13 +135,12 @@ fn note_inside(
     i: usize,
     word: u64,
     at: Section,
-    left: &mut [u8],
-    code: &mut [u16],
+    tally: &mut [u16],
 )
     requires { ⌜ Lent n t (now shifts) (now marks) × (i < length (now marks)) × (first < 8 * i + 64) × Word (now marks) first (8 * i) word ⌝ }
     requires { ⌜ Reached n t (now shifts) (8 * i) (at .index) (at .begin) (at .end) (at .shift) × (8 * i + 64 ≤ at .end) ⌝ }
-    requires { ⌜ Scanned n t (now shifts) (now marks) first (8 * i) (now left) (now code) ⌝ }
-    ensures { λ _. ⌜ Scanned n t (now (shifts .entry)) (now (marks .entry)) first (8 * i + 64) (now (left .exit)) (now (code .exit)) ⌝ }
+    requires { ⌜ Scanned n t (now shifts) (now marks) first (8 * i) (now tally) ⌝ }
+    ensures { λ _. ⌜ Scanned n t (now (shifts .entry)) (now (marks .entry)) first (8 * i + 64) (now (tally .exit)) ⌝ }
 {
     let mut rest = word;
     while rest != 0 {
@@ -154,7 +150,7 @@ fn note_inside(
             section: at.index,
             offset: c - at.begin,
         };
-        note(t, at.shift, spot, &mut left[..], &mut code[..]);
+        note(t, at.shift, spot, &mut tally[..]);
         rest = rest & (rest - 1);
     }
 }
@@ -169,20 +165,19 @@ fn note_across(
     i: usize,
     word: u64,
     at: Section,
-    left: &mut [u8],
-    code: &mut [u16],
+    tally: &mut [u16],
 ) -> Section
     requires { ⌜ Lent n t (now shifts) (now marks) × (i < length (now marks)) × (first < 8 * i + 64) × Word (now marks) first (8 * i) word ⌝ }
     requires { ⌜ Reached n t (now shifts) (8 * i) (at .index) (at .begin) (at .end) (at .shift) ⌝ }
-    requires { ⌜ Scanned n t (now shifts) (now marks) first (8 * i) (now left) (now code) ⌝ }
-    ensures { λ _. ⌜ Scanned n t (now (shifts .entry)) (now (marks .entry)) first (8 * i + 64) (now (left .exit)) (now (code .exit)) ⌝ }
+    requires { ⌜ Scanned n t (now shifts) (now marks) first (8 * i) (now tally) ⌝ }
+    ensures { λ _. ⌜ Scanned n t (now (shifts .entry)) (now (marks .entry)) first (8 * i + 64) (now (tally .exit)) ⌝ }
     ensures { λ r. ⌜ Reached n t (now (shifts .entry)) (8 * i + 64) (r .index) (r .begin) (r .end) (r .shift) ⌝ }
 {
     let mut here = at;
     let mut rest = word;
     while rest != 0 {
         let c = 8 * i + u64::trailing_zeros(rest) as usize;
-        here = note_next(n, t, shifts, c, here, &mut left[..], &mut code[..]);
+        here = note_next(n, t, shifts, c, here, &mut tally[..]);
         rest = rest & (rest - 1);
     }
     here
@@ -197,77 +192,36 @@ fn note_word(
     first: u16,
     i: usize,
     at: Section,
-    left: &mut [u8],
-    code: &mut [u16],
+    tally: &mut [u16],
 ) -> Section
     requires { ⌜ Lent n t (now shifts) (now marks) × (i < length (now marks)) × (first < 8 * i + 64) ⌝ }
     requires { ⌜ Reached n t (now shifts) (8 * i) (at .index) (at .begin) (at .end) (at .shift) ⌝ }
-    requires { ⌜ Scanned n t (now shifts) (now marks) first (8 * i) (now left) (now code) ⌝ }
-    ensures { λ _. ⌜ Scanned n t (now (shifts .entry)) (now (marks .entry)) first (8 * i + 64) (now (left .exit)) (now (code .exit)) ⌝ }
+    requires { ⌜ Scanned n t (now shifts) (now marks) first (8 * i) (now tally) ⌝ }
+    ensures { λ _. ⌜ Scanned n t (now (shifts .entry)) (now (marks .entry)) first (8 * i + 64) (now (tally .exit)) ⌝ }
     ensures { λ r. ⌜ Reached n t (now (shifts .entry)) (8 * i + 64) (r .index) (r .begin) (r .end) (r .shift) ⌝ }
 {
     let c = 8 * i;
     let word = word_from(marks, i, Place(first));
     if word == u64::MAX {
-        return note_places(n, t, shifts, c, c + 64, at, &mut left[..], &mut code[..]);
+        return note_places(n, t, shifts, c, c + 64, at, &mut tally[..]);
     }
     if at.end < c + 64 {
-        return note_across(
-            n,
-            t,
-            shifts,
-            marks,
-            first,
-            i,
-            word,
-            at,
-            &mut left[..],
-            &mut code[..],
-        );
+        return note_across(n, t, shifts, marks, first, i, word, at, &mut tally[..]);
     }
-    note_inside(
-        n,
-        t,
-        shifts,
-        marks,
-        first,
-        i,
-        word,
-        at,
-        &mut left[..],
-        &mut code[..],
-    );
+    note_inside(n, t, shifts, marks, first, i, word, at, &mut tally[..]);
     at
 }
 
-// Notes all marked places from `first` on, in tables of zeros.
-pub fn note_marks(
-    n: usize,
-    t: usize,
-    shifts: &[u16],
-    marks: &[u8],
-    first: Place,
-    left: &mut [u8],
-    code: &mut [u16],
-)
+// Notes all marked places from `first` on, in a table of zeros.
+pub fn note_marks(n: usize, t: usize, shifts: &[u16], marks: &[u8], first: Place, tally: &mut [u16])
     requires { ⌜ Lent n t (now shifts) (now marks) ⌝ }
-    requires { ⌜ (now left ≡ replicate (2 * t) 0) × (now code ≡ replicate (2 * t) 0) ⌝ }
-    ensures { λ _. ⌜ Counted (layout n t (now (shifts .entry))) (fromPlace (first .0) (erasures (layout n t (now (shifts .entry))) (now (marks .entry)))) (now (left .exit)) (now (code .exit)) ⌝ }
+    requires { ⌜ now tally ≡ replicate (2 * t) 0 ⌝ }
+    ensures { λ _. ⌜ Counted (layout n t (now (shifts .entry))) (fromPlace (first .0) (erasures (layout n t (now (shifts .entry))) (now (marks .entry)))) (now (tally .exit)) ⌝ }
 {
     let mut at = Section::start(n, t, shifts);
     let mut i = pass_zeros(marks, first.0 as usize / 64 * 8);
     while i < marks.len() {
-        at = note_word(
-            n,
-            t,
-            shifts,
-            marks,
-            first.0,
-            i,
-            at,
-            &mut left[..],
-            &mut code[..],
-        );
+        at = note_word(n, t, shifts, marks, first.0, i, at, &mut tally[..]);
         i = pass_zeros(marks, i + 8);
     }
 }

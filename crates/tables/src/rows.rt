@@ -1,10 +1,9 @@
-// The two rows of a spot, and the changes of the row tables at one row.
+// The two rows of a spot, and the change of the tallies at one row.
 ghost use mathlib.Core.Path.{_≡_};
-ghost use Prim.Native.Nat.{_+_, _-_, _≤_, _<_};
+ghost use Prim.Native.Nat.{_+_, _-_, _*_, _≤_, _<_};
 ghost use lib.ListN.{length, getD, set};
-ghost use Rattle.math.specs.Xor.{_⊕_};
 ghost use Rattle.plan.specs.Layout.{bottomRow};
-use crate::packed::Packed;
+ghost use Rattle.tables.specs.Beside.{Beside};
 use crate::walk::Spot;
 use plan::Row;
 
@@ -26,13 +25,56 @@ pub fn bottom(spot: Spot, t: usize, p: usize) -> Row
     Row((t + (spot.offset + t - p)) as u16)
 }
 
-// One erasure more on the row: the place with code c.
-pub(crate) fn put_in(left: &mut [u8], code: &mut [u16], r: Row, c: Packed)
-    requires { ⌜ (r .0 < length (now left)) × (r .0 < length (now code)) × (getD (now left) (r .0) 0 + 1 < 256) ⌝ }
-    ensures { λ _. ⌜ now (left .exit) ≡ set (now (left .entry)) (r .0) (getD (now (left .entry)) (r .0) 0 + 1) ⌝ }
-    ensures { λ _. ⌜ now (code .exit) ≡ set (now (code .entry)) (r .0) (getD (now (code .entry)) (r .0) 0 ⊕ c .0) ⌝ }
+// What a place of this section adds to the tally of each of its rows.
+pub(crate) fn weight(section: usize) -> u16
+    requires { ⌜ section < 32 ⌝ }
+    ensures { λ r. ⌜ r ≡ 1024 + section ⌝ }
+{
+    1024 + section as u16
+}
+
+// One erasure more on the row: a place of weight w.
+pub(crate) fn put_in(tally: &mut [u16], r: Row, w: u16)
+    requires { ⌜ (r .0 < length (now tally)) × (getD (now tally) (r .0) 0 + w < 65536) ⌝ }
+    ensures { λ _. ⌜ now (tally .exit) ≡ set (now (tally .entry)) (r .0) (getD (now (tally .entry)) (r .0) 0 + w) ⌝ }
 {
     let i = r.0 as usize;
-    left[i] = left[i] + 1;
-    code[i] = code[i] ^ c.0;
+    tally[i] = tally[i] + w;
+}
+
+// The place of a section on a row: its offset, and the row that it meets beside that one.
+pub struct Met {
+    pub offset: usize,
+    pub other: usize,
+}
+
+// p is the section's shift. The inner tests only decide whether t is added or taken off: the outcome is hard to foresee, and of this form no branch is made.
+pub fn beside(t: usize, p: usize, row: usize) -> Met
+    requires { ⌜ (p < t) × (row < 2 * t) × (t ≤ 2048) ⌝ }
+    ensures { λ r. ⌜ Beside t p row (r .offset) (r .other) ⌝ }
+{
+    if t <= row {
+        let turned = row - t + p;
+        if turned < t {
+            return Met {
+                offset: turned,
+                other: turned,
+            };
+        }
+        return Met {
+            offset: turned - t,
+            other: turned - t,
+        };
+    }
+    let turned = row + t - p;
+    if turned < t {
+        return Met {
+            offset: row,
+            other: turned + t,
+        };
+    }
+    Met {
+        offset: row,
+        other: turned,
+    }
 }

@@ -14,29 +14,32 @@ use Rattle.blocks.proofs.reseal.Tie as tie
 slice-aggregate-runs : tie.Need-slice-aggregate-runs
 slice-aggregate-runs c = search needs
 
+slice-aggregate-runs-2 : tie.Need-slice-aggregate-runs-2
+slice-aggregate-runs-2 c = search needs
+
 runs-requires : tie.Need-runs-requires
-runs-requires c κs = let l : length (c .before .before .before .args .plan .shifts) ≡ 32 = search needs in plan-sized _ (c .before .before .before .pre .0) l
+runs-requires c κs = let l : length (c .before .before .before .before .args .plan .shifts) ≡ 32 = search needs in (plan-sized _ (c .before .before .before .before .pre .0) l, refl)
 
 slice-aggregate-gather : tie.Need-slice-aggregate-gather
 slice-aggregate-gather c = search needs
 
 array-borrow-prefix-message : tie.Need-array-borrow-prefix-message
-array-borrow-prefix-message c = omega (arith, c .before .before .before .before .before .before .pre .2, count-most _ (c .before .before .before .before .before .before .pre .0))
+array-borrow-prefix-message c = omega (arith, c .before .before .before .before .before .before .before .before .pre .2, count-most _ (c .before .before .before .before .before .before .before .before .pre .0))
 
 slice-aggregate-gather-2 : tie.Need-slice-aggregate-gather-2
-slice-aggregate-gather-2 c = zeros-long _ 32768 (omega (arith, c .before .before .before .before .before .before .before .pre .2, count-most _ (c .before .before .before .before .before .before .before .pre .0)))
+slice-aggregate-gather-2 c = zeros-long _ 32768 (omega (arith, c .before .before .before .before .before .before .before .before .before .pre .2, count-most _ (c .before .before .before .before .before .before .before .before .before .pre .0)))
 
 gather-requires : tie.Need-gather-requires
 unfolding layoutOf
 gather-requires c κs =
-    let most : c .before .before .before .before .before .before .before .args .count ≤ 32768 = omega (arith, c .before .before .before .before .before .before .before .pre .2, count-most _ (c .before .before .before .before .before .before .before .pre .0)) in
-    record { L = _; of = c .before .before .before .runs .ensures; block-long = c .before .before .before .before .before .before .before .pre .1; message-long = sym (zeros-long _ 32768 most) ∙ c .before .before .before .before .before .before .before .pre .2 }
+    let most : c .before .before .before .before .before .before .before .before .before .args .count ≤ 32768 = omega (arith, c .before .before .before .before .before .before .before .before .before .pre .2, count-most _ (c .before .before .before .before .before .before .before .before .before .pre .0)) in
+    record { L = _; of = c .before .before .before .before .runs .ensures; block-long = c .before .before .before .before .before .before .before .before .before .pre .1; message-long = sym (zeros-long _ 32768 most) ∙ c .before .before .before .before .before .before .before .before .before .pre .2 }
 
 array-share-prefix-message : tie.Need-array-share-prefix-message
-array-share-prefix-message c = back-room (c .before .gather .last .1 .1 .1 .1 .0) _ 32768 (omega (arith, c .before .before .before .before .before .before .before .before .before .pre .2, count-most _ (c .before .before .before .before .before .before .before .before .before .pre .0))) (c .before .gather .kept .1 .1 .1 .1 .0)
+array-share-prefix-message c = back-room (c .before .gather .last .1 .1 .1 .1 .0) _ 32768 (omega (arith, c .before .before .before .before .before .before .before .before .before .before .before .pre .2, count-most _ (c .before .before .before .before .before .before .before .before .before .before .before .pre .0))) (c .before .gather .kept .1 .1 .1 .1 .0)
 
 slice-aggregate-encode : tie.Need-slice-aggregate-encode
-slice-aggregate-encode c = back-front (c .before .before .gather .last .1 .1 .1 .1 .0) _ 32768 (omega (arith, c .before .before .before .before .before .before .before .before .before .before .pre .2, count-most _ (c .before .before .before .before .before .before .before .before .before .before .pre .0))) (c .before .before .gather .kept .1 .1 .1 .1 .0)
+slice-aggregate-encode c = back-front (c .before .before .gather .last .1 .1 .1 .1 .0) _ 32768 (omega (arith, c .before .before .before .before .before .before .before .before .before .before .before .before .pre .2, count-most _ (c .before .before .before .before .before .before .before .before .before .before .before .before .pre .0))) (c .before .before .gather .kept .1 .1 .1 .1 .0)
 
 encode-requires : tie.Need-encode-requires
 encode-requires c κs = search needs
@@ -47,12 +50,26 @@ same-length c = c .before .before .encode .kept .1 .1 .0
 returns : tie.Need-returns
 unfolding layoutOf
 returns c =
-    let p = c .before .before .before .before .before .before .before .before .before .before .before .before .before .before .pre in
-    let most : c .before .before .before .before .before .before .before .before .before .before .before .before .before .before .args .count ≤ 32768 = omega (arith, p .2, count-most _ (p .0)) in
+    let p = c .before .before .before .before .before .before .before .before .before .before .before .before .before .before .before .before .pre in
+    let most : c .before .before .before .before .before .before .before .before .before .before .before .before .before .before .before .before .args .count ≤ 32768 = omega (arith, p .2, count-most _ (p .0)) in
     let g = c .before .before .before .before .before .before .gather in
-    carried _ _ _ (p .0) (p .1) (λ i. c .before .before .before .before .before .before .before .before .before .before .before .before .before .slice-known .given i .fits)
-    (back-same (g .last .1 .1 .1 .1 .0) _ 32768 most (g .kept .1 .1 .1 .1 .0) ∙ g .ensures _ (c .before .before .before .before .before .before .before .before .before .before .runs .ensures))
+    carried _ _ _ (p .0) (p .1) (λ i. c .before .before .before .before .before .before .before .before .before .before .before .before .before .before .before .slice-known .given i .fits)
+    (back-same (g .last .1 .1 .1 .1 .0) _ 32768 most (g .kept .1 .1 .1 .1 .0) ∙ g .ensures _ (c .before .before .before .before .before .before .before .before .before .before .before .runs .ensures))
     (sym (back-front (g .last .1 .1 .1 .1 .0) _ 32768 most (g .kept .1 .1 .1 .1 .0)) ∙ p .2) _ _ (c .before .before .encode .ensures)
 
 pub reseal-spec : {M : Type 1} → statement M
-reseal-spec = tie.close (tie.spec slice-aggregate-runs runs-requires slice-aggregate-gather array-borrow-prefix-message slice-aggregate-gather-2 gather-requires array-share-prefix-message slice-aggregate-encode encode-requires same-length returns)
+reseal-spec =
+    tie.close
+    (tie.spec
+    slice-aggregate-runs
+    slice-aggregate-runs-2
+    runs-requires
+    slice-aggregate-gather
+    array-borrow-prefix-message
+    slice-aggregate-gather-2
+    gather-requires
+    array-share-prefix-message
+    slice-aggregate-encode
+    encode-requires
+    same-length
+    returns)

@@ -9,7 +9,7 @@ clear-bytes-requires : tie.Need-clear-bytes-requires
 clear-bytes-requires c κs = search needs
 
 count-requires : tie.Need-count-requires
-count-requires c κs = let start = c .before .before .before .before .before .before .before .before .before .before .before in (record { sized = start .pre .0 .sized; marks-long = start .pre .0 .marks-long; no-spare = start .pre .0 .no-spare }, (start .pre .1 .1, start .pre .1 .2))
+count-requires c κs = (record { sized = c .before .before .before .before .before .before .before .before .before .pre .0 .sized; marks-long = c .before .before .before .before .before .before .before .before .before .pre .0 .marks-long; no-spare = c .before .before .before .before .before .before .before .before .before .pre .0 .no-spare }, c .before .before .before .before .before .before .before .before .before .pre .1 .1)
 
 same-length : tie.Need-same-length
 same-length c = search needs
@@ -17,11 +17,10 @@ same-length c = search needs
 same-length-2 : tie.Need-same-length-2
 same-length-2 c = search needs
 
-same-length-3 : tie.Need-same-length-3
-same-length-3 c = search needs
-
 returns : tie.Need-returns
-returns c = begun (c .before .before .before .before .before .before .before .before .before .before .before .before .before .before .before .before .pre .0) (cleared (c .before .before .before .before .before .before .before .before .before .clear-bytes .ensures) (c .before .before .before .before .before .before .before .before .before .before .before .before .before .before .before .before .pre .1 .0)) (c .before .before .before .before .count .ensures)
+returns c = begun (c .before .before .before .before .before .before .before .before .before .before .before .before .pre .0) (cleared (c .before .before .before .before .before .before .clear-bytes .ensures) (c .before .before .before .before .before .before .before .before .before .before .before .before .pre .1 .0)) (c .before .before .count .ensures)
 
 pub picture-from-spec : {M : Type 1} → statement M
-picture-from-spec = tie.close (tie.spec clear-bytes-requires count-requires same-length same-length-2 same-length-3 returns)
+picture-from-spec =
+    tie.close
+    (tie.spec clear-bytes-requires count-requires same-length same-length-2 returns)

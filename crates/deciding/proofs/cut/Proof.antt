@@ -15,31 +15,25 @@ slice-aggregate-attempt : tie.Need-slice-aggregate-attempt
 slice-aggregate-attempt c = search needs
 
 slice-relend-prefix-attempt-2 : tie.Need-slice-relend-prefix-attempt-2
-slice-relend-prefix-attempt-2 c = zeros-room (c .before .before .before .before .before .before .before .before .before .before .before .pre .1 .left-zeros)
+slice-relend-prefix-attempt-2 c = zeros-room (c .before .before .before .before .before .before .before .before .before .before .pre .1 .tally-zeros)
 
 slice-aggregate-attempt-2 : tie.Need-slice-aggregate-attempt-2
-slice-aggregate-attempt-2 c = front-long _ _ (zeros-room (c .before .before .before .before .before .before .before .before .before .before .before .before .pre .1 .left-zeros))
+slice-aggregate-attempt-2 c = front-long _ _ (zeros-room (c .before .before .before .before .before .before .before .before .before .before .before .pre .1 .tally-zeros))
 
 slice-relend-prefix-attempt-3 : tie.Need-slice-relend-prefix-attempt-3
-slice-relend-prefix-attempt-3 c = zeros-room (c .before .before .before .before .before .before .before .before .before .before .before .before .pre .1 .code-zeros)
+slice-relend-prefix-attempt-3 c = search needs
 
 slice-aggregate-attempt-3 : tie.Need-slice-aggregate-attempt-3
-slice-aggregate-attempt-3 c = front-long _ _ (zeros-room (c .before .before .before .before .before .before .before .before .before .before .before .before .before .pre .1 .code-zeros))
+slice-aggregate-attempt-3 c = front-long _ _ (c .before .before .before .before .before .before .before .before .before .before .before .before .pre .1 .place-room)
 
 slice-relend-prefix-attempt-4 : tie.Need-slice-relend-prefix-attempt-4
 slice-relend-prefix-attempt-4 c = search needs
 
 slice-aggregate-attempt-4 : tie.Need-slice-aggregate-attempt-4
-slice-aggregate-attempt-4 c = front-long _ _ (c .before .before .before .before .before .before .before .before .before .before .before .before .before .before .pre .1 .place-room)
-
-slice-relend-prefix-attempt-5 : tie.Need-slice-relend-prefix-attempt-5
-slice-relend-prefix-attempt-5 c = search needs
-
-slice-aggregate-attempt-5 : tie.Need-slice-aggregate-attempt-5
-slice-aggregate-attempt-5 c = front-long _ _ (c .before .before .before .before .before .before .before .before .before .before .before .before .before .before .before .pre .1 .value-room)
+slice-aggregate-attempt-4 c = front-long _ _ (c .before .before .before .before .before .before .before .before .before .before .before .before .before .pre .1 .value-room)
 
 attempt-requires : tie.Need-attempt-requires
-attempt-requires c κs = (c .before .before .before .before .before .before .before .before .before .before .before .before .before .before .before .before .pre .0, cut-tables (c .before .before .before .before .before .before .before .before .before .before .before .before .before .before .before .before .pre .1))
+attempt-requires c κs = (c .before .before .before .before .before .before .before .before .before .before .before .before .before .before .pre .0, cut-tables (c .before .before .before .before .before .before .before .before .before .before .before .before .before .before .pre .1))
 
 same-length : tie.Need-same-length
 same-length c = search needs
@@ -59,9 +53,6 @@ same-length-5 c = search needs
 same-length-6 : tie.Need-same-length-6
 same-length-6 c = search needs
 
-same-length-7 : tie.Need-same-length-7
-same-length-7 c = search needs
-
 returns : tie.Need-returns
 returns c = search needs
 
@@ -78,8 +69,6 @@ cut-spec =
     slice-aggregate-attempt-3
     slice-relend-prefix-attempt-4
     slice-aggregate-attempt-4
-    slice-relend-prefix-attempt-5
-    slice-aggregate-attempt-5
     attempt-requires
     same-length
     same-length-2
@@ -87,5 +76,4 @@ cut-spec =
     same-length-4
     same-length-5
     same-length-6
-    same-length-7
     returns)

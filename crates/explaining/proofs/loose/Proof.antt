@@ -11,10 +11,10 @@ enum-told : tie.Need-enum-told
 enum-told c = search needs
 
 returns : tie.Need-returns
-returns c = loosens-forest (closed-none _ _ _ (c .enum-told .given .1) (c .before .before .before .before .before .before .before .before .before .before .pre .1 .0))
+returns c = loosens-forest (closed-none _ _ _ (c .enum-told .given .1) (c .before .before .before .before .before .before .before .before .before .pre .1 .0))
 
 show-requires : tie.Need-show-requires
-show-requires c κs = (marked-closing (c .before .before .before .before .before .before .before .before .before .before .before .before .before .before .before .before .before .pre .0) (closed-at _ _ _ (c .before .before .before .before .before .before .before .closing .given .1) (c .before .before .before .before .before .before .before .before .before .before .before .before .before .before .before .before .before .pre .1 .0)), c .before .before .before .before .before .before .before .before .before .before .before .before .before .before .before .before .before .pre .1 .1)
+show-requires c κs = (marked-closing (c .before .before .before .before .before .before .before .before .before .before .before .before .before .before .before .pre .0) (closed-at _ _ _ (c .before .before .before .before .before .before .closing .given .1) (c .before .before .before .before .before .before .before .before .before .before .before .before .before .before .before .pre .1 .0)), c .before .before .before .before .before .before .before .before .before .before .before .before .before .before .before .pre .1 .1)
 
 same-length : tie.Need-same-length
 same-length c = search needs
@@ -31,24 +31,10 @@ same-length-4 c = search needs
 same-length-5 : tie.Need-same-length-5
 same-length-5 c = search needs
 
-same-length-6 : tie.Need-same-length-6
-same-length-6 c = search needs
-
 returns-2 : tie.Need-returns-2
-returns-2 c = loosens-shown (c .before .before .before .before .before .before .before .before .before .before .before .before .before .before .before .before .before .before .before .before .before .before .before .before .before .before .before .before .before .before .pre .0) (c .before .before .before .before .before .before .before .before .before .before .before .before .show .ensures)
+returns-2 c = loosens-shown (c .before .before .before .before .before .before .before .before .before .before .before .before .before .before .before .before .before .before .before .before .before .before .before .before .before .before .pre .0) (c .before .before .before .before .before .before .before .before .before .before .show .ensures)
 
 pub loose-spec : {M : Type 1} → statement M
 loose-spec =
     tie.close
-    (tie.spec
-    enum-known-closing
-    enum-told
-    returns
-    show-requires
-    same-length
-    same-length-2
-    same-length-3
-    same-length-4
-    same-length-5
-    same-length-6
-    returns-2)
+    (tie.spec enum-known-closing enum-told returns show-requires same-length same-length-2 same-length-3 same-length-4 same-length-5 returns-2)

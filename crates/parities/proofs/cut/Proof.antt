@@ -9,43 +9,37 @@ mul-rows : tie.Need-mul-rows
 mul-rows c = search needs
 
 slice-relend-prefix-settle-parities : tie.Need-slice-relend-prefix-settle-parities
-slice-relend-prefix-settle-parities c = zeros-room (c .before .before .before .before .before .before .before .before .before .before .pre .1 .sum-zeros)
+slice-relend-prefix-settle-parities c = zeros-room (c .before .before .before .before .before .before .before .before .before .pre .1 .sum-zeros)
 
 slice-aggregate-settle-parities : tie.Need-slice-aggregate-settle-parities
-slice-aggregate-settle-parities c = front-long _ _ (zeros-room (c .before .before .before .before .before .before .before .before .before .before .before .pre .1 .sum-zeros))
+slice-aggregate-settle-parities c = front-long _ _ (zeros-room (c .before .before .before .before .before .before .before .before .before .before .pre .1 .sum-zeros))
 
 slice-relend-prefix-settle-parities-2 : tie.Need-slice-relend-prefix-settle-parities-2
-slice-relend-prefix-settle-parities-2 c = zeros-room (c .before .before .before .before .before .before .before .before .before .before .before .pre .1 .left-zeros)
+slice-relend-prefix-settle-parities-2 c = zeros-room (c .before .before .before .before .before .before .before .before .before .before .pre .1 .tally-zeros)
 
 slice-aggregate-settle-parities-2 : tie.Need-slice-aggregate-settle-parities-2
-slice-aggregate-settle-parities-2 c = front-long _ _ (zeros-room (c .before .before .before .before .before .before .before .before .before .before .before .before .pre .1 .left-zeros))
+slice-aggregate-settle-parities-2 c = front-long _ _ (zeros-room (c .before .before .before .before .before .before .before .before .before .before .before .pre .1 .tally-zeros))
 
 slice-relend-prefix-settle-parities-3 : tie.Need-slice-relend-prefix-settle-parities-3
-slice-relend-prefix-settle-parities-3 c = zeros-room (c .before .before .before .before .before .before .before .before .before .before .before .before .pre .1 .code-zeros)
+slice-relend-prefix-settle-parities-3 c = search needs
 
 slice-aggregate-settle-parities-3 : tie.Need-slice-aggregate-settle-parities-3
-slice-aggregate-settle-parities-3 c = front-long _ _ (zeros-room (c .before .before .before .before .before .before .before .before .before .before .before .before .before .pre .1 .code-zeros))
+slice-aggregate-settle-parities-3 c = front-long _ _ (c .before .before .before .before .before .before .before .before .before .before .before .before .pre .1 .queue-room)
 
 slice-relend-prefix-settle-parities-4 : tie.Need-slice-relend-prefix-settle-parities-4
 slice-relend-prefix-settle-parities-4 c = search needs
 
 slice-aggregate-settle-parities-4 : tie.Need-slice-aggregate-settle-parities-4
-slice-aggregate-settle-parities-4 c = front-long _ _ (c .before .before .before .before .before .before .before .before .before .before .before .before .before .before .pre .1 .queue-room)
+slice-aggregate-settle-parities-4 c = front-long _ _ (c .before .before .before .before .before .before .before .before .before .before .before .before .before .pre .1 .place-room)
 
 slice-relend-prefix-settle-parities-5 : tie.Need-slice-relend-prefix-settle-parities-5
 slice-relend-prefix-settle-parities-5 c = search needs
 
 slice-aggregate-settle-parities-5 : tie.Need-slice-aggregate-settle-parities-5
-slice-aggregate-settle-parities-5 c = front-long _ _ (c .before .before .before .before .before .before .before .before .before .before .before .before .before .before .before .pre .1 .place-room)
-
-slice-relend-prefix-settle-parities-6 : tie.Need-slice-relend-prefix-settle-parities-6
-slice-relend-prefix-settle-parities-6 c = search needs
-
-slice-aggregate-settle-parities-6 : tie.Need-slice-aggregate-settle-parities-6
-slice-aggregate-settle-parities-6 c = front-long _ _ (c .before .before .before .before .before .before .before .before .before .before .before .before .before .before .before .before .pre .1 .value-room)
+slice-aggregate-settle-parities-5 c = front-long _ _ (c .before .before .before .before .before .before .before .before .before .before .before .before .before .before .pre .1 .value-room)
 
 settle-parities-requires : tie.Need-settle-parities-requires
-settle-parities-requires c κs = (c .before .before .before .before .before .before .before .before .before .before .before .before .before .before .before .before .pre .0, (cut-blank (c .before .before .before .before .before .before .before .before .before .before .before .before .before .before .before .before .pre .1), cut-room (c .before .before .before .before .before .before .before .before .before .before .before .before .before .before .before .before .pre .1)))
+settle-parities-requires c κs = (c .before .before .before .before .before .before .before .before .before .before .before .before .before .before .pre .0, (cut-blank (c .before .before .before .before .before .before .before .before .before .before .before .before .before .before .pre .1), cut-room (c .before .before .before .before .before .before .before .before .before .before .before .before .before .before .pre .1)))
 
 same-length : tie.Need-same-length
 same-length c = search needs
@@ -65,9 +59,6 @@ same-length-5 c = search needs
 same-length-6 : tie.Need-same-length-6
 same-length-6 c = search needs
 
-same-length-7 : tie.Need-same-length-7
-same-length-7 c = search needs
-
 returns : tie.Need-returns
 returns c = search needs
 
@@ -86,8 +77,6 @@ cut-spec =
     slice-aggregate-settle-parities-4
     slice-relend-prefix-settle-parities-5
     slice-aggregate-settle-parities-5
-    slice-relend-prefix-settle-parities-6
-    slice-aggregate-settle-parities-6
     settle-parities-requires
     same-length
     same-length-2
@@ -95,5 +84,4 @@ cut-spec =
     same-length-4
     same-length-5
     same-length-6
-    same-length-7
     returns)

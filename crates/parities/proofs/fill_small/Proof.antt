@@ -20,11 +20,8 @@ slice-aggregate-cut-4 c = search needs
 slice-aggregate-cut-5 : tie.Need-slice-aggregate-cut-5
 slice-aggregate-cut-5 c = search needs
 
-slice-aggregate-cut-6 : tie.Need-slice-aggregate-cut-6
-slice-aggregate-cut-6 c = search needs
-
 cut-requires : tie.Need-cut-requires
-cut-requires c κs = (c .before .before .before .before .before .before .before .before .before .before .pre .0, cut-arrays 64 (omega (arith, c .before .before .before .before .before .before .before .before .before .before .pre .1)))
+cut-requires c κs = (c .before .before .before .before .before .before .before .before .before .pre .0, cut-arrays 64 (omega (arith, c .before .before .before .before .before .before .before .before .before .pre .1)))
 
 same-length : tie.Need-same-length
 same-length c = search needs
@@ -41,7 +38,6 @@ fill-small-spec =
     slice-aggregate-cut-3
     slice-aggregate-cut-4
     slice-aggregate-cut-5
-    slice-aggregate-cut-6
     cut-requires
     same-length
     returns)

@@ -6,47 +6,59 @@ use Rattle.peel.proofs.drain_stored.Statement.{statement}
 use Rattle.peel.proofs.drain_stored.Tie as tie
 
 abbrev Inv-loop : tie.InvT-loop
-Inv-loop n t shifts sum₀ left₀ code₀ queue₀ place₀ value₀ seeds tail₀ count₀ head₀ sum left code queue place value tail count head =
-    Peeling n t shifts sum₀ left₀ code₀ sum left code queue place value head tail count
+Inv-loop n t shifts sum₀ tally₀ queue₀ place₀ value₀ seeds tail₀ count₀ head₀ sum tally queue place value tail count head =
+    Peeling n t shifts sum₀ tally₀ sum tally queue place value head tail count
 
 abbrev μ-loop : tie.MeasureT-loop
-μ-loop n t shifts sum₀ left₀ code₀ queue₀ place₀ value₀ seeds tail₀ count₀ head₀ sum left code queue place value tail count head = 2 * t - head
+μ-loop n t shifts sum₀ tally₀ queue₀ place₀ value₀ seeds tail₀ count₀ head₀ sum tally queue place value tail count head = 2 * t - head
 
 loop-holds : tie.Need-loop-holds Inv-loop μ-loop
-loop-holds c = peeling-start (c .before .before .before .before .before .before .before .pre)
+loop-holds c = peeling-start (c .before .before .before .before .before .before .pre)
 
 step-stored-requires : tie.Need-step-stored-requires Inv-loop μ-loop
-step-stored-requires c κs = (c .before .before .before .before .before .before .before .loop .inv .ready, c .before .before .before .before .before .before .loop-test .taken)
+step-stored-requires c κs = (c .before .before .before .before .before .before .loop .inv .ready, c .before .before .before .before .before .loop-test .taken)
 
 add-head : tie.Need-add-head Inv-loop μ-loop
-add-head c = omega (arith, peeling-less (c .before .before .before .before .before .before .before .before .before .before .before .before .before .before .before .before .before .before .before .before .loop .inv) (c .before .before .before .before .before .before .before .before .before .before .before .before .before .before .before .before .before .before .before .loop-test .taken) .0)
+add-head c = omega (arith, peeling-less (c .before .before .before .before .before .before .before .before .before .before .before .before .before .before .before .before .before .loop .inv) (c .before .before .before .before .before .before .before .before .before .before .before .before .before .before .before .before .loop-test .taken) .0)
 
 loop-less : tie.Need-loop-less Inv-loop μ-loop
-loop-less c = peeling-less (c .before .before .before .before .before .before .before .before .before .before .before .before .before .before .before .before .before .before .before .before .loop .inv) (c .before .before .before .before .before .before .before .before .before .before .before .before .before .before .before .before .before .before .before .loop-test .taken) .1
+loop-less c = peeling-less (c .before .before .before .before .before .before .before .before .before .before .before .before .before .before .before .before .before .loop .inv) (c .before .before .before .before .before .before .before .before .before .before .before .before .before .before .before .before .loop-test .taken) .1
 
 loop-again : tie.Need-loop-again Inv-loop μ-loop
-loop-again c = peeling-step (c .before .before .before .before .before .before .before .before .before .before .before .before .before .before .before .before .before .before .before .before .loop .inv) (c .before .before .before .before .before .before .before .before .before .before .before .before .step-stored .ensures)
+loop-again c = peeling-step (c .before .before .before .before .before .before .before .before .before .before .before .before .before .before .before .before .before .loop .inv) (c .before .before .before .before .before .before .before .before .before .before .step-stored .ensures)
 
 same-length : tie.Need-same-length Inv-loop μ-loop
-same-length c = ready-long (c .before .before .before .before .before .before .before .before .before .pre) (c .before .loop .inv .ready) .0
+same-length c = ready-long (c .before .before .before .before .before .before .before .before .pre) (c .before .loop .inv .ready) .0
 
 same-length-2 : tie.Need-same-length-2 Inv-loop μ-loop
-same-length-2 c = ready-long (c .before .before .before .before .before .before .before .before .before .pre) (c .before .loop .inv .ready) .1
+same-length-2 c = ready-long (c .before .before .before .before .before .before .before .before .pre) (c .before .loop .inv .ready) .1
 
 same-length-3 : tie.Need-same-length-3 Inv-loop μ-loop
-same-length-3 c = ready-long (c .before .before .before .before .before .before .before .before .before .pre) (c .before .loop .inv .ready) .2
+same-length-3 c = ready-long (c .before .before .before .before .before .before .before .before .pre) (c .before .loop .inv .ready) .2
 
 same-length-4 : tie.Need-same-length-4 Inv-loop μ-loop
-same-length-4 c = ready-long (c .before .before .before .before .before .before .before .before .before .pre) (c .before .loop .inv .ready) .3
+same-length-4 c = ready-long (c .before .before .before .before .before .before .before .before .pre) (c .before .loop .inv .ready) .3
 
 same-length-5 : tie.Need-same-length-5 Inv-loop μ-loop
-same-length-5 c = ready-long (c .before .before .before .before .before .before .before .before .before .pre) (c .before .loop .inv .ready) .4
-
-same-length-6 : tie.Need-same-length-6 Inv-loop μ-loop
-same-length-6 c = ready-long (c .before .before .before .before .before .before .before .before .before .pre) (c .before .loop .inv .ready) .5
+same-length-5 c = ready-long (c .before .before .before .before .before .before .before .before .pre) (c .before .loop .inv .ready) .4
 
 returns : tie.Need-returns Inv-loop μ-loop
 returns c = peeling-end (c .before .loop .inv) (c .loop-test .left)
 
 pub drain-stored-spec : {M : Type 1} → statement M
-drain-stored-spec = tie.close (tie.spec Inv-loop μ-loop loop-holds step-stored-requires add-head loop-less loop-again same-length same-length-2 same-length-3 same-length-4 same-length-5 same-length-6 returns)
+drain-stored-spec =
+    tie.close
+    (tie.spec
+    Inv-loop
+    μ-loop
+    loop-holds
+    step-stored-requires
+    add-head
+    loop-less
+    loop-again
+    same-length
+    same-length-2
+    same-length-3
+    same-length-4
+    same-length-5
+    returns)

@@ -38,11 +38,8 @@ slice-aggregate-cut-3 c = search needs
 slice-aggregate-cut-4 : tie.Need-slice-aggregate-cut-4
 slice-aggregate-cut-4 c = search needs
 
-slice-aggregate-cut-5 : tie.Need-slice-aggregate-cut-5
-slice-aggregate-cut-5 c = search needs
-
 cut-requires : tie.Need-cut-requires
-cut-requires c κs = (c .before .before .before .before .before .before .before .before .before .before .before .before .before .before .before .before .pre .0, cut-arrays 384 (omega (arith, c .before .before .before .before .before .before .before .before .before .before .before .before .before .before .before .before .pre .1)) (c .before .before .before .before .before .before .before .before .before .intact .ensures .0))
+cut-requires c κs = (c .before .before .before .before .before .before .before .before .before .before .before .before .before .before .before .pre .0, cut-arrays 384 (omega (arith, c .before .before .before .before .before .before .before .before .before .before .before .before .before .before .before .pre .1)) (c .before .before .before .before .before .before .before .before .intact .ensures .0))
 
 same-length-3 : tie.Need-same-length-3
 same-length-3 c = search needs
@@ -67,7 +64,6 @@ decide-medium-spec =
     slice-aggregate-cut-2
     slice-aggregate-cut-3
     slice-aggregate-cut-4
-    slice-aggregate-cut-5
     cut-requires
     same-length-3
     same-length-4

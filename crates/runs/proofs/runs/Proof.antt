@@ -1,5 +1,5 @@
 -- `runs` meets its contract. The loop's invariant: the runs from j on are known, and the divisor there. Assumes nothing.
-use mathlib.Core.Path.{_≡_, refl, _∙_, ap, ap₂}
+use mathlib.Core.Path.{_≡_, refl, sym, _∙_, ap, ap₂, subst}
 use Prim.Native.Nat.{ℕ, _-_}
 use native.Mathlib.Omega.{arith}
 use lib.ListN.{getD}
@@ -31,7 +31,7 @@ sub-j : tie.Need-sub-j Inv-loop μ-loop
 sub-j c = search needs
 
 loop-holds : tie.Need-loop-holds Inv-loop μ-loop
-loop-holds c = (search needs, known-start _ _ _ (c .before .before .before .pre) refl)
+loop-holds c = (search needs, subst (Known (c .before .before .before .before .args .n) (c .before .before .before .before .args .t) (c .before .before .before .before .args .shifts .now) _ _) (sym (c .before .before .before .before .pre .1)) (known-start _ _ _ (c .before .before .before .before .pre .0) refl))
 
 sub-j-2 : tie.Need-sub-j-2 Inv-loop μ-loop
 sub-j-2 c = search needs
@@ -53,24 +53,24 @@ share-requires c κs = search needs
 
 sub-r : tie.Need-sub-r Inv-loop μ-loop
 sub-r c =
-    let k = known-fits _ _ _ (c .before .before .before .before .before .before .before .before .before .pre) (c .before .gap .result) (c .before .before .before .before .before .loop .inv .1) in
+    let k = known-fits _ _ _ (c .before .before .before .before .before .before .before .before .before .before .pre .0) (c .before .gap .result) (c .before .before .before .before .before .loop .inv .1) in
     omega (arith, k .0, k .1, c .share .ensures)
 
 add-r : tie.Need-add-r Inv-loop μ-loop
 add-r c =
-    let k = known-fits _ _ _ (c .before .before .before .before .before .before .before .before .before .pre) (c .before .gap .result) (c .before .before .before .before .before .loop .inv .1) in
+    let k = known-fits _ _ _ (c .before .before .before .before .before .before .before .before .before .before .pre .0) (c .before .gap .result) (c .before .before .before .before .before .loop .inv .1) in
     omega (arith, k .0, k .1, c .share .ensures)
 
 cast-r : tie.Need-cast-r Inv-loop μ-loop
 cast-r c =
-    let k = known-fits _ _ _ (c .before .before .before .before .before .before .before .before .before .pre) (c .before .gap .result) (c .before .before .before .before .before .loop .inv .1) in
-    omega (arith, k .0, k .1, c .share .ensures, c .before .before .before .before .before .before .before .before .before .pre .t-max)
+    let k = known-fits _ _ _ (c .before .before .before .before .before .before .before .before .before .before .pre .0) (c .before .gap .result) (c .before .before .before .before .before .loop .inv .1) in
+    omega (arith, k .0, k .1, c .share .ensures, c .before .before .before .before .before .before .before .before .before .before .pre .0 .t-max)
 
 mul-r : tie.Need-mul-r Inv-loop μ-loop
 mul-r c = search needs
 
-array-write-r : tie.Need-array-write-r Inv-loop μ-loop
-array-write-r c = search needs
+slice-write-r : tie.Need-slice-write-r Inv-loop μ-loop
+slice-write-r c = search needs
 
 loop-less : tie.Need-loop-less Inv-loop μ-loop
 loop-less c = search needs
@@ -79,13 +79,16 @@ loop-again : tie.Need-loop-again Inv-loop μ-loop
 loop-again c =
     let inv = c .before .before .before .before .before .loop .inv in (
       inv .0,
-      known-more _ _ _ (c .before .before .before .before .before .before .before .before .before .pre) (inv .1) (omega arith)
+      known-more _ _ _ (c .before .before .before .before .before .before .before .before .before .before .pre .0) (inv .1) (omega arith)
           (c .share .ensures ∙ ap (λ (x : ℕ). gcd x (c .before .before .before .before .before .loop .g)) (c .before .gap .ensures ∙ ap₂ gap (c .before .before .wide2 .ensures) (inv .0)))
           refl refl,
     )
 
+same-length : tie.Need-same-length Inv-loop μ-loop
+same-length c = search needs
+
 returns : tie.Need-returns Inv-loop μ-loop
-returns c = known-end _ _ _ (c .before .before .before .before .before .pre) (c .before .loop .inv .1) (omega arith)
+returns c = known-end _ _ _ (c .before .before .before .before .before .before .pre .0) (c .before .loop .inv .1) (omega arith)
 
 pub runs-spec : {M : Type 1} → statement M
 runs-spec =
@@ -109,7 +112,8 @@ runs-spec =
     add-r
     cast-r
     mul-r
-    array-write-r
+    slice-write-r
     loop-less
     loop-again
+    same-length
     returns)

@@ -7,6 +7,9 @@ use Rattle.sealing.specs.Passing.{pass-sized, pass-long, encoded}
 use Rattle.sealing.proofs.encode.Statement.{statement}
 use Rattle.sealing.proofs.encode.Tie as tie
 
+slice-aggregate-check : tie.Need-slice-aggregate-check
+slice-aggregate-check c = search needs
+
 check-requires : tie.Need-check-requires
 check-requires c κs = search needs
 
@@ -20,10 +23,10 @@ slice-aggregate-seal-2 : tie.Need-slice-aggregate-seal-2
 slice-aggregate-seal-2 c = search needs
 
 seal-requires : tie.Need-seal-requires
-seal-requires c κs = let l : length (c .before .before .before .before .before .before .before .before .before .before .before .args .plan .shifts) ≡ 32 = search needs in let e = pass-long _ _ _ (sym (c .before .before .before .before .before .before .check .ensures .answer) ∙ c .before .before .before .enum-told .given .1) in (record { sized = pass-sized _ _ _ (sym (c .before .before .before .before .before .before .check .ensures .answer) ∙ c .before .before .before .enum-told .given .1) l; of = c .before .before .before .before .before .before .check .ensures .of (c .before .before .before .enum-told .given .1); block-long = e .0 }, e .1)
+seal-requires c κs = let l : length (c .before .before .before .before .before .before .before .before .before .before .before .before .args .plan .shifts) ≡ 32 = search needs in let e = pass-long _ _ _ (sym (c .before .before .before .before .before .before .check .ensures .answer) ∙ c .before .before .before .enum-told .given .1) in (record { sized = pass-sized _ _ _ (sym (c .before .before .before .before .before .before .check .ensures .answer) ∙ c .before .before .before .enum-told .given .1) l; of = c .before .before .before .before .before .before .check .ensures .of (c .before .before .before .enum-told .given .1); block-long = e .0 }, e .1)
 
-enum-known-c : tie.Need-enum-known-c
-enum-known-c c = search needs
+enum-known-x : tie.Need-enum-known-x
+enum-known-x c = search needs
 
 same-length : tie.Need-same-length
 same-length c = c .before .before .seal .kept .1 .1 .1 .1 .1 .0
@@ -35,18 +38,19 @@ same-length-2 : tie.Need-same-length-2
 same-length-2 c = search needs
 
 returns-2 : tie.Need-returns-2
-returns-2 c = encodes-refused _ _ _ (sym (c .before .before .before .before .check .ensures .answer) ∙ c .before .c .given .1)
+returns-2 c = encodes-refused _ _ _ (sym (c .before .before .before .before .check .ensures .answer) ∙ c .before .x .given .1)
 
 pub encode-spec : {M : Type 1} → statement M
 encode-spec =
     tie.close
     (tie.spec
+    slice-aggregate-check
     check-requires
     enum-told
     slice-aggregate-seal
     slice-aggregate-seal-2
     seal-requires
-    enum-known-c
+    enum-known-x
     same-length
     returns
     same-length-2

@@ -8,6 +8,9 @@ use Rattle.sealing.specs.Passing.{pass-sized, pass-long, read, crossed}
 use Rattle.sealing.proofs.message_of.Statement.{statement}
 use Rattle.sealing.proofs.message_of.Tie as tie
 
+slice-aggregate-check : tie.Need-slice-aggregate-check
+slice-aggregate-check c = search needs
+
 check-requires : tie.Need-check-requires
 check-requires c κs = search needs
 
@@ -18,7 +21,7 @@ slice-aggregate-is-codeword : tie.Need-slice-aggregate-is-codeword
 slice-aggregate-is-codeword c = search needs
 
 is-codeword-requires : tie.Need-is-codeword-requires
-is-codeword-requires c κs = let l : length (c .before .before .before .before .before .before .before .before .before .args .plan .shifts) ≡ 32 = search needs in (pass-sized _ _ _ (sym (c .before .before .before .before .check .ensures .answer) ∙ c .before .enum-told .given .1) l, pass-long _ _ _ (sym (c .before .before .before .before .check .ensures .answer) ∙ c .before .enum-told .given .1) .0)
+is-codeword-requires c κs = let l : length (c .before .before .before .before .before .before .before .before .before .before .args .plan .shifts) ≡ 32 = search needs in (pass-sized _ _ _ (sym (c .before .before .before .before .check .ensures .answer) ∙ c .before .enum-told .given .1) l, pass-long _ _ _ (sym (c .before .before .before .before .check .ensures .answer) ∙ c .before .enum-told .given .1) .0)
 
 same-length : tie.Need-same-length
 same-length c = search needs
@@ -32,8 +35,8 @@ slice-aggregate-gather c = search needs
 gather-requires : tie.Need-gather-requires
 gather-requires c κs = let e = pass-long _ _ _ (sym (c .before .before .before .before .before .before .before .before .check .ensures .answer) ∙ c .before .before .before .before .before .enum-told .given .1) in record { L = _; of = c .before .before .before .before .before .before .before .before .check .ensures .of (c .before .before .before .before .before .enum-told .given .1); block-long = e .0; message-long = e .1 }
 
-enum-known-c : tie.Need-enum-known-c
-enum-known-c c = search needs
+enum-known-x : tie.Need-enum-known-x
+enum-known-x c = search needs
 
 same-length-2 : tie.Need-same-length-2
 same-length-2 c = c .before .before .gather .kept .1 .1 .1 .1 .0
@@ -45,12 +48,13 @@ same-length-3 : tie.Need-same-length-3
 same-length-3 c = search needs
 
 returns-3 : tie.Need-returns-3
-returns-3 c = reads-refused _ _ _ (sym (c .before .before .before .before .check .ensures .answer) ∙ c .before .c .given .1)
+returns-3 c = reads-refused _ _ _ (sym (c .before .before .before .before .check .ensures .answer) ∙ c .before .x .given .1)
 
 pub message-of-spec : {M : Type 1} → statement M
 message-of-spec =
     tie.close
     (tie.spec
+    slice-aggregate-check
     check-requires
     enum-told
     slice-aggregate-is-codeword
@@ -59,7 +63,7 @@ message-of-spec =
     returns
     slice-aggregate-gather
     gather-requires
-    enum-known-c
+    enum-known-x
     same-length-2
     returns-2
     same-length-3

@@ -4,20 +4,14 @@ use Rattle.tables.specs.Filling.{cleared}
 use Rattle.tables.proofs.count.Statement.{statement}
 use Rattle.tables.proofs.count.Tie as tie
 
-clear-bytes-requires : tie.Need-clear-bytes-requires
-clear-bytes-requires c κs = search needs
-
 clear-words-requires : tie.Need-clear-words-requires
 clear-words-requires c κs = search needs
 
 note-marks-requires : tie.Need-note-marks-requires
-note-marks-requires c κs = (c .before .before .before .before .before .before .before .before .before .before .before .before .before .before .pre .0, (cleared (c .before .before .before .before .before .before .before .before .clear-bytes .ensures) (c .before .before .before .before .before .before .before .before .before .before .before .before .before .before .pre .1 .0), cleared (c .before .before .before .before .clear-words .ensures) (c .before .before .before .before .before .before .before .before .before .before .before .before .before .before .pre .1 .1)))
+note-marks-requires c κs = (c .before .before .before .before .before .before .before .before .pre .0, cleared (c .before .before .before .clear-words .ensures) (c .before .before .before .before .before .before .before .before .pre .1))
 
 same-length : tie.Need-same-length
 same-length c = search needs
-
-same-length-2 : tie.Need-same-length-2
-same-length-2 c = search needs
 
 returns : tie.Need-returns
 returns c = search needs
@@ -25,10 +19,4 @@ returns c = search needs
 pub count-spec : {M : Type 1} → statement M
 count-spec =
     tie.close
-    (tie.spec
-    clear-bytes-requires
-    clear-words-requires
-    note-marks-requires
-    same-length
-    same-length-2
-    returns)
+    (tie.spec clear-words-requires note-marks-requires same-length returns)

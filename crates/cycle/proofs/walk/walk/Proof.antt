@@ -1,4 +1,4 @@
--- The loop's invariant: of whatever list the codes walk, z places are written and the next one's code is at hand.
+-- The loop's invariant: of whatever list the tallies walk, z places are written and the next one is at hand.
 -- Some list is walked, so z stays below 2t; the measure is what is left of 2t.
 use mathlib.Core.Path.{sym, _∙_, ap}
 use mathlib.Core.List.{List}
@@ -11,23 +11,24 @@ use Rattle.cycle.proofs.walk.walk.Statement.{statement}
 use Rattle.cycle.proofs.walk.walk.Tie as tie
 
 abbrev Inv-loop : tie.InvT-loop
-Inv-loop n t shifts code first witness₀ packed₀ z₀ witness packed z = (l : List ℕ) → Walks n t shifts code (first .0) l → Walking t l witness z (packed .0)
+Inv-loop n t shifts tally first witness₀ spot₀ z₀ witness spot z =
+    (l : List ℕ) → Walks n t shifts tally (first .place .0) l → Walking t l witness z (spot .place .0) (spot .section) (spot .offset)
 
 abbrev μ-loop : tie.MeasureT-loop
-μ-loop n t shifts code first witness₀ packed₀ z₀ witness packed z = 2 * t - z
+μ-loop n t shifts tally first witness₀ spot₀ z₀ witness spot z = 2 * t - z
 
 clear-words-requires : tie.Need-clear-words-requires Inv-loop μ-loop
 clear-words-requires c κs = search needs
 
 loop-holds : tie.Need-loop-holds Inv-loop μ-loop
 loop-holds c = λ l w.
-    walking-start (c .before .before .before .before .before .before .before .pre .0 .sized) w (c .before .before .clear-words .last .0) (c .before .before .clear-words .ensures ∙ ap (λ k. replicate k 0) (c .before .before .before .before .before .before .before .pre .1))
+    walking-start (c .before .before .before .before .before .before .before .pre .0 .sized) w (c .before .before .clear-words .last .0) (c .before .before .before .before .before .before .before .pre .0 .stands) (c .before .before .clear-words .ensures ∙ ap (λ k. replicate k 0) (c .before .before .before .before .before .before .before .pre .1))
 
 pair-requires : tie.Need-pair-requires Inv-loop μ-loop
 pair-requires c κs =
     let pre = c .before .before .before .before .before .before .before .before .before .pre .0 in
     let g = c .before .loop .inv (pre .cycle) (pre .walks) in (
-      record { long = pre .long; first = _; second = _; couple = walking-couple (pre .sized) (pre .walks) g },
+      walking-couple (pre .sized) (pre .walks) g (pre .long),
       omega (arith, walking-room (pre .sized) (pre .walks) g, walking-long (pre .sized) (pre .walks) g),
     )
 
@@ -63,14 +64,4 @@ loop-again c = λ l w. walking-more (c .before .before .before .before .before .
 pub walk-spec : {M : Type 1} → statement M
 walk-spec =
     tie.close
-    (tie.spec
-    Inv-loop
-    μ-loop
-    clear-words-requires
-    loop-holds
-    pair-requires
-    add-z
-    same-length
-    returns
-    loop-less
-    loop-again)
+    (tie.spec Inv-loop μ-loop clear-words-requires loop-holds pair-requires add-z same-length returns loop-less loop-again)

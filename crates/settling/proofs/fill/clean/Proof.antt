@@ -12,11 +12,13 @@ zero-bytes-requires c κs = search needs
 returns : tie.Need-returns
 returns c = sym (not-clean _ _ (sym (c .before .zero-bytes .ensures) ∙ not-true _ (c .if1 .taken)))
 
-zero-bytes-requires-2 : tie.Need-zero-bytes-requires-2
-zero-bytes-requires-2 c κs = search needs
+zero-words-requires : tie.Need-zero-words-requires
+zero-words-requires c κs = search needs
 
 returns-2 : tie.Need-returns-2
-returns-2 c = c .zero-bytes2 .ensures ∙ sym (clean-rest _ _ (sym (c .before .before .zero-bytes .ensures) ∙ not-false _ (c .before .if1 .left)))
+returns-2 c = c .zero-words .ensures ∙ sym (clean-rest _ _ (sym (c .before .before .zero-bytes .ensures) ∙ not-false _ (c .before .if1 .left)))
 
 pub clean-spec : {M : Type 1} → statement M
-clean-spec = tie.close (tie.spec zero-bytes-requires returns zero-bytes-requires-2 returns-2)
+clean-spec =
+    tie.close
+    (tie.spec zero-bytes-requires returns zero-words-requires returns-2)

@@ -8,17 +8,17 @@ use Rattle.settling.proofs.queue.seed.Statement.{statement}
 use Rattle.settling.proofs.queue.seed.Tie as tie
 
 abbrev Inv-loop : tie.InvT-loop
-Inv-loop t left queue₀ rows tail₀ r₀ queue tail r = Sweepable left queue r rows tail × (length queue ≡ length queue₀)
+Inv-loop t tally queue₀ rows tail₀ r₀ queue tail r = Sweepable tally queue r rows tail × (length queue ≡ length queue₀)
 
 abbrev μ-loop : tie.MeasureT-loop
-μ-loop t left queue₀ rows tail₀ r₀ queue tail r = rows - r
+μ-loop t tally queue₀ rows tail₀ r₀ queue tail r = rows - r
 
 mul-rows : tie.Need-mul-rows Inv-loop μ-loop
 mul-rows c = omega arith
 
 loop-holds : tie.Need-loop-holds Inv-loop μ-loop
 loop-holds c = (
-  record { queued = queued-none _ _; order = omega arith; left-long = omega arith; queue-long = omega arith; few = omega arith },
+  record { queued = queued-none _ _; order = omega arith; tally-long = omega arith; queue-long = omega arith; few = omega arith },
   refl,
 )
 
@@ -50,4 +50,6 @@ returns : tie.Need-returns Inv-loop μ-loop
 returns c = c .before .before .sweep .ensures
 
 pub seed-spec : {M : Type 1} → statement M
-seed-spec = tie.close (tie.spec Inv-loop μ-loop mul-rows loop-holds add-loop sweep-group-requires add-r loop-less loop-again sweep-requires same-length returns)
+seed-spec =
+    tie.close
+    (tie.spec Inv-loop μ-loop mul-rows loop-holds add-loop sweep-group-requires add-r loop-less loop-again sweep-requires same-length returns)

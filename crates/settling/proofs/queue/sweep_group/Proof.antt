@@ -8,6 +8,9 @@ use Rattle.settling.proofs.queue.sweep_group.Tie as tie
 add-to : tie.Need-add-to
 add-to c = search needs
 
+mul-no-ones : tie.Need-mul-no-ones
+mul-no-ones c = search needs
+
 sub-no-ones : tie.Need-sub-no-ones
 sub-no-ones c = search needs
 
@@ -33,4 +36,6 @@ returns-2 : tie.Need-returns-2
 returns-2 c = c .before .before .sweep .ensures
 
 pub sweep-group-spec : {M : Type 1} → statement M
-sweep-group-spec = tie.close (tie.spec add-to sub-no-ones part-no-ones-start part-no-ones-end no-ones-requires returns sweep-requires same-length returns-2)
+sweep-group-spec =
+    tie.close
+    (tie.spec add-to mul-no-ones sub-no-ones part-no-ones-start part-no-ones-end no-ones-requires returns sweep-requires same-length returns-2)

@@ -1,42 +1,75 @@
 -- `settle::settle` meets its contract. Assumes nothing.
 use native.Mathlib.Omega.{arith}
 use mathlib.Core.Path.{refl}
-use Rattle.plan.specs.Layout.{placeOf}
-use Rattle.settling.specs.Takes.{within-place, one-long, one-few, one-within, one-rows, takes}
+use Rattle.settling.specs.Takes.{one-long, one-few, one-small, one-shift, one-place, one-rows, takes}
 use Rattle.settling.proofs.settle.settle.Statement.{statement}
 use Rattle.settling.proofs.settle.settle.Tie as tie
 
-mul-t13 : tie.Need-mul-t13
-mul-t13 c = omega (arith, one-few (c .before .before .before .before .pre))
+mul-w : tie.Need-mul-w
+mul-w c = omega (arith, one-few (c .before .before .before .pre))
 
-slice-read-t15 : tie.Need-slice-read-t15
-slice-read-t15 c = one-long (c .before .before .before .before .before .pre) .2
+slice-read-w : tie.Need-slice-read-w
+slice-read-w c = one-long (c .before .before .before .before .pre) .1
 
 slice-read-x : tie.Need-slice-read-x
-slice-read-x c = one-long (c .before .before .before .before .before .before .pre) .0
+slice-read-x c = one-long (c .before .before .before .before .before .pre) .0
 
-place-requires : tie.Need-place-requires
-place-requires c κs = within-place (one-within (c .before .before .before .before .before .before .pre)) refl refl
+cast-j : tie.Need-cast-j
+cast-j c = omega (arith, one-small (c .before .before .before .before .before .pre))
+
+sub-j : tie.Need-sub-j
+sub-j c = omega (arith, one-small (c .before .before .before .before .before .pre))
+
+mul-p : tie.Need-mul-p
+mul-p c = omega (arith, one-shift (c .before .before .before .before .before .pre) refl .0)
+
+shared-slice-read-p : tie.Need-shared-slice-read-p
+shared-slice-read-p c = one-shift (c .before .before .before .before .before .before .pre) refl .0
+
+cast-p : tie.Need-cast-p
+cast-p c = omega (arith, one-shift (c .before .before .before .before .before .before .pre) refl .1, c .before .before .before .before .before .before .pre .sized .t-max)
 
 beside-requires : tie.Need-beside-requires
-beside-requires c κs = one-within (c .before .before .before .before .before .before .before .pre)
+beside-requires c κs = (one-shift (c .before .before .before .before .before .before .pre) refl .1, c .before .before .before .before .before .before .pre .row, c .before .before .before .before .before .before .pre .sized .t-max)
+
+mul-t14 : tie.Need-mul-t14
+mul-t14 c = omega (arith, one-place (c .before .before .before .before .before .before .before .pre) refl (c .beside .ensures))
+
+add-t20 : tie.Need-add-t20
+add-t20 c = omega (arith, one-place (c .before .before .before .before .before .before .before .before .pre) refl (c .before .beside .ensures))
+
+cast-t16 : tie.Need-cast-t16
+cast-t16 c = omega (arith, one-place (c .before .before .before .before .before .before .before .before .pre) refl (c .before .beside .ensures))
 
 remove-requires : tie.Need-remove-requires
-unfolding placeOf
-remove-requires c κs = one-rows (c .before .before .before .before .before .before .before .before .before .before .before .pre) (c .before .before .before .before .place .ensures) (c .before .before .before .beside .ensures)
+remove-requires c κs = one-rows (c .before .before .before .before .before .before .before .before .before .before .pre) refl (c .before .before .before .beside .ensures) refl
 
 same-length : tie.Need-same-length
-same-length c = c .before .before .before .before .before .before .remove .kept .0
+same-length c = c .before .before .before .before .remove .kept .0
 
 same-length-2 : tie.Need-same-length-2
-same-length-2 c = c .before .before .before .before .before .before .remove .kept .1 .0
-
-same-length-3 : tie.Need-same-length-3
-same-length-3 c = c .before .before .before .before .before .before .remove .kept .1 .1 .0
+same-length-2 c = c .before .before .before .before .remove .kept .1 .0
 
 returns : tie.Need-returns
-unfolding placeOf
-returns c = (takes (c .before .before .before .before .before .before .before .before .before .before .before .before .before .before .before .before .before .before .pre) (c .before .before .before .before .before .before .before .before .before .before .before .place .ensures) (c .before .before .before .before .before .before .before .before .before .before .beside .ensures) refl (c .before .before .before .before .before .before .remove .ensures), c .before .before .before .before .before .before .remove .ensures .rests)
+returns c = (takes (c .before .before .before .before .before .before .before .before .before .before .before .before .before .before .before .pre) refl (c .before .before .before .before .before .before .before .before .beside .ensures) refl refl (c .before .before .before .before .remove .ensures), c .before .before .before .before .remove .ensures .rests)
 
 pub settle-spec : {M : Type 1} → statement M
-settle-spec = tie.close (tie.spec mul-t13 slice-read-t15 slice-read-x place-requires beside-requires remove-requires same-length same-length-2 same-length-3 returns)
+settle-spec =
+    tie.close
+    (tie.spec
+    mul-w
+    slice-read-w
+    slice-read-x
+    cast-j
+    sub-j
+    mul-p
+    shared-slice-read-p
+    cast-p
+    beside-requires
+    mul-t14
+    add-t20
+    cast-t16
+    remove-requires
+    same-length
+    same-length-2
+    returns)

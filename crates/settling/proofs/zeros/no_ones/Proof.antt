@@ -17,6 +17,9 @@ abbrev μ-loop : tie.MeasureT-loop
 loop-holds : tie.Need-loop-holds Inv-loop μ-loop
 loop-holds c = (search needs, gathers-none _)
 
+mul-any : tie.Need-mul-any Inv-loop μ-loop
+mul-any c = search needs
+
 shared-slice-read-any : tie.Need-shared-slice-read-any Inv-loop μ-loop
 shared-slice-read-any c = omega arith
 
@@ -36,4 +39,6 @@ returns : tie.Need-returns Inv-loop μ-loop
 returns c = gathers-all (c .before .loop .inv .1) (omega (arith, c .loop-test .left, length-map (c .before .before .args .l .now) one))
 
 pub no-ones-spec : {M : Type 1} → statement M
-no-ones-spec = tie.close (tie.spec Inv-loop μ-loop loop-holds shared-slice-read-any cast-any add-i loop-less loop-again returns)
+no-ones-spec =
+    tie.close
+    (tie.spec Inv-loop μ-loop loop-holds mul-any shared-slice-read-any cast-any add-i loop-less loop-again returns)

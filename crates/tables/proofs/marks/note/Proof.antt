@@ -1,12 +1,12 @@
--- `tables::marks::note` meets its contract: two stores in each table, at the top row and then at the bottom row.
+-- `tables::marks::note` meets its contract: two stores, at the top row and then at the bottom row.
 use mathlib.Core.Path.{_∙_}
 use borrow.Author.Needs.{needs}
 use Rattle.tables.specs.Counting.{ready-top, ready-bottom, room-top, room-bottom, noted}
 use Rattle.tables.proofs.marks.note.Statement.{statement}
 use Rattle.tables.proofs.marks.note.Tie as tie
 
-pack-requires : tie.Need-pack-requires
-pack-requires c κs = search needs
+weight-requires : tie.Need-weight-requires
+weight-requires c κs = search needs
 
 top-requires : tie.Need-top-requires
 top-requires c κs = search needs
@@ -15,39 +15,21 @@ bottom-requires : tie.Need-bottom-requires
 bottom-requires c κs = search needs
 
 put-in-requires : tie.Need-put-in-requires
-put-in-requires c κs = (
-  ready-top (c .before .before .before .before .before .before .before .pre) (c .before .before .before .top .ensures) (c .before .before .before .before .before .before .before .pre .left-long),
-  ready-top (c .before .before .before .before .before .before .before .pre) (c .before .before .before .top .ensures) (c .before .before .before .before .before .before .before .pre .code-long),
-  room-top (c .before .before .before .before .before .before .before .pre) (c .before .before .before .top .ensures),
-)
+put-in-requires c κs = (ready-top (c .before .before .before .before .before .pre) (c .before .before .top .ensures) (c .before .before .before .before .before .pre .long), room-top (c .before .before .before .before .before .pre) (c .before .before .top .ensures) (c .before .before .before .weight .ensures))
 
 put-in-requires-2 : tie.Need-put-in-requires-2
 put-in-requires-2 c κs = (
-  ready-bottom (c .before .before .before .before .before .before .before .before .before .before .before .before .before .before .pre) (c .before .before .before .before .before .before .before .before .before .bottom .ensures) (c .before .before .before .before .before .before .put-in .kept .0 ∙ c .before .before .before .before .before .before .before .before .before .before .before .before .before .before .pre .left-long),
-  ready-bottom (c .before .before .before .before .before .before .before .before .before .before .before .before .before .before .pre) (c .before .before .before .before .before .before .before .before .before .bottom .ensures) (c .before .before .before .before .before .before .put-in .kept .1 .0 ∙ c .before .before .before .before .before .before .before .before .before .before .before .before .before .before .pre .code-long),
-  room-bottom (c .before .before .before .before .before .before .before .before .before .before .before .before .before .before .pre) (c .before .before .before .before .before .before .before .before .before .before .top .ensures) (c .before .before .before .before .before .before .before .before .before .bottom .ensures) (c .before .before .before .before .before .before .put-in .ensures .0),
+  ready-bottom (c .before .before .before .before .before .before .before .before .before .pre) (c .before .before .before .before .before .bottom .ensures) (c .before .before .before .put-in .kept .0 ∙ c .before .before .before .before .before .before .before .before .before .pre .long),
+  room-bottom (c .before .before .before .before .before .before .before .before .before .pre) (c .before .before .before .before .before .before .top .ensures) (c .before .before .before .before .before .bottom .ensures) (c .before .before .before .before .before .before .before .weight .ensures) (c .before .before .before .put-in .ensures),
 )
 
 same-length : tie.Need-same-length
 same-length c = search needs
 
-same-length-2 : tie.Need-same-length-2
-same-length-2 c = search needs
-
 returns : tie.Need-returns
-returns c =
-    noted (c .before .before .before .before .before .before .before .before .before .before .before .before .before .before .before .top .ensures) (c .before .before .before .before .before .before .before .before .before .before .before .before .before .before .bottom .ensures) (c .before .before .before .before .before .before .before .before .before .before .before .before .before .before .before .before .pack .ensures)
-    (c .before .before .before .before .before .before .before .before .before .before .before .put-in .ensures .0) (c .before .before .before .before .put-in2 .ensures .0) (c .before .before .before .before .before .before .before .before .before .before .before .put-in .ensures .1) (c .before .before .before .before .put-in2 .ensures .1)
+returns c = noted (c .before .before .before .before .before .before .before .before .before .top .ensures) (c .before .before .before .before .before .before .before .before .bottom .ensures) (c .before .before .before .before .before .before .before .before .before .before .weight .ensures) (c .before .before .before .before .before .before .put-in .ensures) (c .before .before .put-in2 .ensures)
 
 pub note-spec : {M : Type 1} → statement M
 note-spec =
     tie.close
-    (tie.spec
-    pack-requires
-    top-requires
-    bottom-requires
-    put-in-requires
-    put-in-requires-2
-    same-length
-    same-length-2
-    returns)
+    (tie.spec weight-requires top-requires bottom-requires put-in-requires put-in-requires-2 same-length returns)

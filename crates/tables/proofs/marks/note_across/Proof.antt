@@ -9,41 +9,38 @@ use Rattle.tables.proofs.marks.note_across.Statement.{statement}
 use Rattle.tables.proofs.marks.note_across.Tie as tie
 
 abbrev Inv-loop : tie.InvT-loop
-Inv-loop n t shifts marks first i word left₀ code₀ here₀ rest₀ left code here rest =
-    Noting n t shifts marks first (8 * i) rest (here .index) (here .begin) (here .end) (here .shift) left code
+Inv-loop n t shifts marks first i word tally₀ here₀ rest₀ tally here rest =
+    Noting n t shifts marks first (8 * i) rest (here .index) (here .begin) (here .end) (here .shift) tally
 
 abbrev μ-loop : tie.MeasureT-loop
-μ-loop n t shifts marks first i word left₀ code₀ here₀ rest₀ left code here rest = rest
+μ-loop n t shifts marks first i word tally₀ here₀ rest₀ tally here rest = rest
 
 loop-holds : tie.Need-loop-holds Inv-loop μ-loop
-loop-holds c = noting-start (c .before .before .before .before .pre .1 .1) (c .before .before .before .before .pre .1 .0) (omega (arith, c .before .before .before .before .pre .0 .2)) (c .before .before .before .before .pre .0 .3)
+loop-holds c = noting-start (c .before .before .before .pre .1 .1) (c .before .before .before .pre .1 .0) (omega (arith, c .before .before .before .pre .0 .2)) (c .before .before .before .pre .0 .3)
 
 mul-c : tie.Need-mul-c Inv-loop μ-loop
-mul-c c = omega (arith, c .before .before .before .before .before .before .pre .0 .1, c .before .before .before .before .before .before .pre .0 .0 .marks-long, c .before .before .before .before .before .before .pre .0 .0 .sized .places-max)
+mul-c c = omega (arith, c .before .before .before .before .before .pre .0 .1, c .before .before .before .before .before .pre .0 .0 .marks-long, c .before .before .before .before .before .pre .0 .0 .sized .places-max)
 
 cast-c : tie.Need-cast-c Inv-loop μ-loop
 cast-c c = omega (arith, noting-bit (c .before .loop .inv) (c .loop-test .taken))
 
 add-c : tie.Need-add-c Inv-loop μ-loop
-add-c c = omega (arith, c .before .before .before .before .before .before .pre .0 .1, c .before .before .before .before .before .before .pre .0 .0 .marks-long, c .before .before .before .before .before .before .pre .0 .0 .sized .places-max, noting-bit (c .before .loop .inv) (c .loop-test .taken))
+add-c c = omega (arith, c .before .before .before .before .before .pre .0 .1, c .before .before .before .before .before .pre .0 .0 .marks-long, c .before .before .before .before .before .pre .0 .0 .sized .places-max, noting-bit (c .before .loop .inv) (c .loop-test .taken))
 
 note-next-requires : tie.Need-note-next-requires Inv-loop μ-loop
-note-next-requires c κs = (noting-due (c .before .before .before .loop .inv) (c .before .before .loop-test .taken) (c .before .before .before .before .before .before .before .before .pre .0 .0), noting-reached (c .before .before .before .loop .inv) (c .before .before .loop-test .taken))
+note-next-requires c κs = (noting-due (c .before .before .loop .inv) (c .before .loop-test .taken) (c .before .before .before .before .before .before .pre .0 .0), noting-reached (c .before .before .loop .inv) (c .before .loop-test .taken))
 
 sub-rest : tie.Need-sub-rest Inv-loop μ-loop
-sub-rest c = omega (arith, dropped-less 64 (c .before .before .before .before .before .before .before .before .loop .rest) (c .before .before .before .before .before .before .before .before .loop .inv .word .small) (c .before .before .before .before .before .before .before .loop-test .taken))
+sub-rest c = omega (arith, dropped-less 64 (c .before .before .before .before .before .loop .rest) (c .before .before .before .before .before .loop .inv .word .small) (c .before .before .before .before .loop-test .taken))
 
 loop-less : tie.Need-loop-less Inv-loop μ-loop
-loop-less c = dropped-less 64 (c .before .before .before .before .before .before .before .before .loop .rest) (c .before .before .before .before .before .before .before .before .loop .inv .word .small) (c .before .before .before .before .before .before .before .loop-test .taken)
+loop-less c = dropped-less 64 (c .before .before .before .before .before .loop .rest) (c .before .before .before .before .before .loop .inv .word .small) (c .before .before .before .before .loop-test .taken)
 
 loop-again : tie.Need-loop-again Inv-loop μ-loop
-loop-again c = noting-more (c .before .before .before .before .before .before .before .before .loop .inv) (c .before .before .before .before .before .before .before .loop-test .taken) (c .before .before .before .before .before .before .before .before .before .before .before .before .before .pre .0 .0) (c .before .before .before .before .note-next .ensures .0) (c .before .before .before .before .note-next .ensures .1)
+loop-again c = noting-more (c .before .before .before .before .before .loop .inv) (c .before .before .before .before .loop-test .taken) (c .before .before .before .before .before .before .before .before .before .pre .0 .0) (c .before .before .note-next .ensures .0) (c .before .before .note-next .ensures .1)
 
 same-length : tie.Need-same-length Inv-loop μ-loop
-same-length c = seen-long (c .before .loop .inv .seen .seen) .0 ∙ sym (seen-long (c .before .before .before .before .before .before .pre .1 .1 .seen) .0)
-
-same-length-2 : tie.Need-same-length-2 Inv-loop μ-loop
-same-length-2 c = seen-long (c .before .loop .inv .seen .seen) .1 ∙ sym (seen-long (c .before .before .before .before .before .before .pre .1 .1 .seen) .1)
+same-length c = seen-long (c .before .loop .inv .seen .seen) ∙ sym (seen-long (c .before .before .before .before .before .pre .1 .1 .seen))
 
 returns : tie.Need-returns Inv-loop μ-loop
 returns c = (noting-done (c .before .loop .inv) (c .loop-test .left), noting-section (c .before .loop .inv))
@@ -51,17 +48,4 @@ returns c = (noting-done (c .before .loop .inv) (c .loop-test .left), noting-sec
 pub note-across-spec : {M : Type 1} → statement M
 note-across-spec =
     tie.close
-    (tie.spec
-    Inv-loop
-    μ-loop
-    loop-holds
-    mul-c
-    cast-c
-    add-c
-    note-next-requires
-    sub-rest
-    loop-less
-    loop-again
-    same-length
-    same-length-2
-    returns)
+    (tie.spec Inv-loop μ-loop loop-holds mul-c cast-c add-c note-next-requires sub-rest loop-less loop-again same-length returns)

@@ -5,23 +5,22 @@ use Rattle.tables.specs.Stretches.{stretch-fits, stretch-ready, run-note
 use Rattle.tables.proofs.marks.note_stretch.Statement.{statement}
 use Rattle.tables.proofs.marks.note_stretch.Tie as tie
 
-cast-t10 : tie.Need-cast-t10
-cast-t10 c = omega (arith, stretch-fits (c .before .before .before .pre .0 .0) (c .before .before .before .pre .1 .0) (c .before .before .before .pre .1 .1) (c .before .before .before .pre .0 .1), c .before .before .before .pre .0 .0 .sized .places-max)
+cast-t9 : tie.Need-cast-t9
+cast-t9 c = omega (arith, stretch-fits (c .before .before .pre .0 .0) (c .before .before .pre .1 .0) (c .before .before .pre .1 .1) (c .before .before .pre .0 .1), c .before .before .pre .0 .0 .sized .places-max)
 
-sub-t12 : tie.Need-sub-t12
-sub-t12 c = search needs
+sub-t11 : tie.Need-sub-t11
+sub-t11 c = search needs
 
 note-run-requires : tie.Need-note-run-requires
-note-run-requires c κs = (stretch-ready (c .before .before .before .before .before .before .pre .0 .0) (c .before .before .before .before .before .before .pre .1 .0) (c .before .before .before .before .before .before .pre .1 .1) (c .before .before .before .before .before .before .pre .0 .1), (c .before .before .before .before .before .before .pre .1 .1, c .before .before .before .before .before .before .pre .0 .1))
+note-run-requires c κs = (stretch-ready (c .before .before .before .before .pre .0 .0) (c .before .before .before .before .pre .1 .0) (c .before .before .before .before .pre .1 .1) (c .before .before .before .before .pre .0 .1), (c .before .before .before .before .pre .1 .1, c .before .before .before .before .pre .0 .1))
 
 same-length : tie.Need-same-length
 same-length c = search needs
 
-same-length-2 : tie.Need-same-length-2
-same-length-2 c = search needs
-
 returns : tie.Need-returns
-returns c = run-notes (c .before .before .before .before .before .before .before .before .before .before .before .pre .0 .0) (c .before .before .before .before .before .before .before .before .before .before .before .pre .1 .0) (c .before .before .before .before .before .before .before .before .before .before .before .pre .1 .1) (c .before .before .before .before .before .before .before .before .before .before .before .pre .0 .1) (c .before .before .before .before .note-run .ensures)
+returns c = run-notes (c .before .before .before .before .before .before .before .pre .0 .0) (c .before .before .before .before .before .before .before .pre .1 .0) (c .before .before .before .before .before .before .before .pre .1 .1) (c .before .before .before .before .before .before .before .pre .0 .1) (c .before .before .note-run .ensures)
 
 pub note-stretch-spec : {M : Type 1} → statement M
-note-stretch-spec = tie.close (tie.spec cast-t10 sub-t12 note-run-requires same-length same-length-2 returns)
+note-stretch-spec =
+    tie.close
+    (tie.spec cast-t9 sub-t11 note-run-requires same-length returns)

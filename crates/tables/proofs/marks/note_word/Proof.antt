@@ -16,16 +16,13 @@ add-note-places : tie.Need-add-note-places
 add-note-places c = search needs
 
 note-places-requires : tie.Need-note-places-requires
-note-places-requires c κs = ((ones-due (c .before .before .before .before .before .before .before .before .pre .0 .0) (c .before .before .before .before .before .before .before .before .pre .1 .1) (c .before .before .before .word-from .ensures) (c .before .before .if1 .taken), omega arith), c .before .before .before .before .before .before .before .before .pre .1 .0)
+note-places-requires c κs = ((ones-due (c .before .before .before .before .before .before .pre .0 .0) (c .before .before .before .before .before .before .pre .1 .1) (c .before .before .word-from .ensures) (c .before .if1 .taken), omega arith), c .before .before .before .before .before .before .pre .1 .0)
 
 same-length : tie.Need-same-length
 same-length c = search needs
 
-same-length-2 : tie.Need-same-length-2
-same-length-2 c = search needs
-
 returns : tie.Need-returns
-returns c = (ones-noted (c .before .before .before .before .before .before .before .before .before .before .before .before .before .pre .0 .0) (c .before .before .before .before .before .before .before .before .before .before .before .before .before .pre .1 .1) (c .before .before .before .before .before .before .before .before .word-from .ensures) (c .before .before .before .before .before .before .before .if1 .taken) (c .before .before .before .before .note-places .ensures .0), c .before .before .before .before .note-places .ensures .1)
+returns c = (ones-noted (c .before .before .before .before .before .before .before .before .before .pre .0 .0) (c .before .before .before .before .before .before .before .before .before .pre .1 .1) (c .before .before .before .before .before .word-from .ensures) (c .before .before .before .before .if1 .taken) (c .before .before .note-places .ensures .0), c .before .before .note-places .ensures .1)
 
 add-if2 : tie.Need-add-if2
 add-if2 c = search needs
@@ -33,26 +30,20 @@ add-if2 c = search needs
 note-across-requires : tie.Need-note-across-requires
 note-across-requires c κs = search needs
 
-same-length-3 : tie.Need-same-length-3
-same-length-3 c = search needs
-
-same-length-4 : tie.Need-same-length-4
-same-length-4 c = search needs
+same-length-2 : tie.Need-same-length-2
+same-length-2 c = search needs
 
 returns-2 : tie.Need-returns-2
 returns-2 c = search needs
 
 note-inside-requires : tie.Need-note-inside-requires
-note-inside-requires c κs = ((c .before .before .before .before .before .before .before .before .before .before .pre .0 .0, c .before .before .before .before .before .before .before .before .before .before .pre .0 .1, c .before .before .before .before .before .before .before .before .before .before .pre .0 .2, c .before .before .before .before .before .word-from .ensures), ((c .before .before .before .before .before .before .before .before .before .before .pre .1 .0, omega (arith, c .before .before .if2 .left)), c .before .before .before .before .before .before .before .before .before .before .pre .1 .1))
+note-inside-requires c κs = ((c .before .before .before .before .before .before .before .before .pre .0 .0, c .before .before .before .before .before .before .before .before .pre .0 .1, c .before .before .before .before .before .before .before .before .pre .0 .2, c .before .before .before .before .word-from .ensures), ((c .before .before .before .before .before .before .before .before .pre .1 .0, omega (arith, c .before .if2 .left)), c .before .before .before .before .before .before .before .before .pre .1 .1))
 
-same-length-5 : tie.Need-same-length-5
-same-length-5 c = search needs
-
-same-length-6 : tie.Need-same-length-6
-same-length-6 c = search needs
+same-length-3 : tie.Need-same-length-3
+same-length-3 c = search needs
 
 returns-3 : tie.Need-returns-3
-returns-3 c = (c .before .before .before .before .note-inside .ensures, reached-on _ (omega arith) (c .before .before .before .before .before .before .before .before .before .before .before .before .before .before .before .pre .1 .0))
+returns-3 c = (c .before .before .note-inside .ensures, reached-on _ (omega arith) (c .before .before .before .before .before .before .before .before .before .before .before .pre .1 .0))
 
 pub note-word-spec : {M : Type 1} → statement M
 note-word-spec =
@@ -63,14 +54,11 @@ note-word-spec =
     add-note-places
     note-places-requires
     same-length
-    same-length-2
     returns
     add-if2
     note-across-requires
-    same-length-3
-    same-length-4
+    same-length-2
     returns-2
     note-inside-requires
-    same-length-5
-    same-length-6
+    same-length-3
     returns-3)

@@ -1,28 +1,33 @@
--- `tables::sweep::raise` meets its contract. The invariant: the first i entries are raised, the others are as they were.
+-- `tables::sweep::raise` meets its contract. The invariant: the first i entries have w added, the others are as they were.
 use mathlib.Core.Path.{refl}
 use Prim.Native.Nat.{_≤_, _-_}
 use native.Mathlib.Omega.{arith}
-use borrow.Author.Needs.{needs}
 use lib.ListN.{length}
 use Rattle.tables.specs.Sweeps.{MappedTo, mapped-none, mapped-more, mapped-all}
-use Rattle.tables.specs.Stretches.{oneMore}
+use Rattle.tables.specs.Stretches.{added}
 use Rattle.tables.proofs.sweep.raise.Statement.{statement}
 use Rattle.tables.proofs.sweep.raise.Tie as tie
 
 abbrev Inv-loop : tie.InvT-loop
-Inv-loop s₀ i₀ s i = (i ≤ length s₀) × MappedTo oneMore s₀ i s
+Inv-loop s₀ w i₀ s i = (i ≤ length s₀) × MappedTo (added w) s₀ i s
 
 abbrev μ-loop : tie.MeasureT-loop
-μ-loop s₀ i₀ s i = length s₀ - i
+μ-loop s₀ w i₀ s i = length s₀ - i
 
 loop-holds : tie.Need-loop-holds Inv-loop μ-loop
-loop-holds c = (omega arith, mapped-none oneMore (c .args .s .now))
+loop-holds c = (omega arith, mapped-none (added (c .args .w)) (c .args .s .now))
+
+mul-s : tie.Need-mul-s Inv-loop μ-loop
+mul-s c = omega arith
 
 slice-read-s : tie.Need-slice-read-s Inv-loop μ-loop
 slice-read-s c = omega arith
 
 add-s : tie.Need-add-s Inv-loop μ-loop
 add-s c = omega (arith, c .before .before .loop .inv .1 .above (c .before .before .loop .i) (omega arith), c .before .before .before .pre .each (c .before .before .loop .i) (omega arith))
+
+mul-s-2 : tie.Need-mul-s-2 Inv-loop μ-loop
+mul-s-2 c = omega arith
 
 slice-write-s : tie.Need-slice-write-s Inv-loop μ-loop
 slice-write-s c = omega arith
@@ -45,15 +50,4 @@ returns c = mapped-all (c .before .loop .inv .1) (omega arith)
 pub raise-spec : {M : Type 1} → statement M
 raise-spec =
     tie.close
-    (tie.spec
-    Inv-loop
-    μ-loop
-    loop-holds
-    slice-read-s
-    add-s
-    slice-write-s
-    add-i
-    loop-less
-    loop-again
-    same-length
-    returns)
+    (tie.spec Inv-loop μ-loop loop-holds mul-s slice-read-s add-s mul-s-2 slice-write-s add-i loop-less loop-again same-length returns)

@@ -1,16 +1,19 @@
--- `tables::sweep::sweep_left` meets its contract: two parts of the table, each raised.
+-- `tables::sweep::sweep` meets its contract: two parts of the table, w added to each.
 use borrow.Author.Needs.{needs}
 use mathlib.Core.Path.{refl}
 use native.Mathlib.Omega.{arith}
 use Rattle.tables.specs.Sweeps.{room-part, room-second, swept-lent}
-use Rattle.tables.proofs.sweep.sweep_left.Statement.{statement}
-use Rattle.tables.proofs.sweep.sweep_left.Tie as tie
+use Rattle.tables.proofs.sweep.sweep.Statement.{statement}
+use Rattle.tables.proofs.sweep.sweep.Tie as tie
 
 add-high : tie.Need-add-high
 add-high c = search needs
 
 add-low : tie.Need-add-low
 add-low c = search needs
+
+mul-raise : tie.Need-mul-raise
+mul-raise c = search needs
 
 sub-raise : tie.Need-sub-raise
 sub-raise c = search needs
@@ -23,6 +26,9 @@ part-raise-end c = search needs
 
 raise-requires : tie.Need-raise-requires
 raise-requires c κs = room-part (c .before .before .args .a) (c .before .before .args .m) (c .before .before .pre .1) (omega arith)
+
+mul-raise-2 : tie.Need-mul-raise-2
+mul-raise-2 c = search needs
 
 sub-raise-2 : tie.Need-sub-raise-2
 sub-raise-2 c = search needs
@@ -42,16 +48,18 @@ same-length c = search needs
 returns : tie.Need-returns
 returns c = swept-lent _ _ _ _ (c .before .before .before .before .before .before .before .before .before .pre .0) refl (c .before .before .before .before .before .before .raise .ensures) refl (c .before .before .raise2 .ensures)
 
-pub sweep-left-spec : {M : Type 1} → statement M
-sweep-left-spec =
+pub sweep-spec : {M : Type 1} → statement M
+sweep-spec =
     tie.close
     (tie.spec
     add-high
     add-low
+    mul-raise
     sub-raise
     part-raise-start
     part-raise-end
     raise-requires
+    mul-raise-2
     sub-raise-2
     part-raise-start-2
     part-raise-end-2
