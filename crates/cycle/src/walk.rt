@@ -10,7 +10,7 @@ use tables::rows::bottom;
 use tables::rows::top;
 use tables::walk::Spot;
 
-// The other place on a row that has two.
+// The other place on a row that has two: its tally is 2,048 and the two sections.
 fn mate(n: usize, t: usize, shifts: &[u16], tally: &[u16], row: usize, spot: Spot) -> Spot
     requires { ⌜ Mating n t (now shifts) (now tally) row (spot .place .0) (spot .section) (spot .offset) ⌝ }
     ensures { λ r. ⌜ Mate n t (now (shifts .entry)) (now (tally .entry)) row (spot .place .0) (r .place .0) (r .section) (r .offset) ⌝ }

@@ -15,7 +15,7 @@ use sums::syndromes;
 use tables::marks::note_places;
 use tables::walk::Section;
 
-// Counts the parity places in tables of zeros: of each section those from its run on.
+// Counts the parity places in a table of zeros: of each section those from its run on.
 fn count_parities(n: usize, t: usize, shifts: &[u16], runs: &[u16], tally: &mut [u16])
     requires { ⌜ Sized n t (now shifts) × RunsOf n t (layout n t (now shifts)) (now runs) ⌝ }
     requires { ⌜ now tally ≡ replicate (2 * t) 0 ⌝ }

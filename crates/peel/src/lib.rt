@@ -15,7 +15,7 @@ struct Ends {
     count: usize,
 }
 
-// One turn: the row at the head of the queue, if it still has exactly one left.
+// One turn: the row at the head of the queue, if it still has exactly one left, by its tally over 1,024.
 fn step_chain(
     n: usize,
     t: usize,

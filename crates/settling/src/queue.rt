@@ -30,7 +30,7 @@ pub fn enter_stored(queue: &mut [u16], tail: usize, row: usize, rest: u16) -> us
     tail + (rest == 1) as usize
 }
 
-// The rows from `from` up to `to` enter if they have exactly one left. Each is stored at the tail, and the tail moves on if it enters:
+// The rows from `from` up to `to` enter if they have exactly one left, by their tallies over 1,024. Each is stored at the tail, and the tail moves on if it enters:
 // no branch, since which rows enter is hard to foresee.
 fn sweep(tally: &[u16], queue: &mut [u16], from: usize, to: usize, tail: usize) -> usize
     requires { ⌜ Sweepable (now tally) (now queue) from to tail ⌝ }

@@ -1,7 +1,6 @@
 // Settling the one erasure that a row has left. Rows are numbers of machine width here: a turn of a chain waits for the row before it, and
 // narrowing that row would make it wait longer.
 ghost use mathlib.Core.Path.{_≡_};
-ghost use lib.ListN.{getD};
 ghost use Rattle.plan.specs.Layout.{layout};
 ghost use Rattle.tables.specs.Picture.{counts};
 ghost use Rattle.settling.specs.Takes.{Rows, Removes, One, Takes};
@@ -16,7 +15,7 @@ pub struct Settled {
     pub rest: u16,
 }
 
-// Takes a place of weight w out of its two rows, the first of which has no other. Gives the number left on the second.
+// Takes a place of weight w out of its two rows, the first of which has no other. Gives the number left on the second: its tally over 1,024.
 pub(crate) fn remove(
     sum: &mut [u8],
     tally: &mut [u16],
@@ -36,7 +35,7 @@ pub(crate) fn remove(
     rest / 1024
 }
 
-// The place on the row of the section that the row's tally says.
+// The tally of a row with one left is 1,024 and the section; the place is that section's on the row.
 pub fn settle(
     n: usize,
     t: usize,

@@ -1,4 +1,4 @@
--- Places noted in the tables one after the other, in rising order: the tables count those of a list below the place that has been come to.
+-- Places noted one after the other, in rising order: the table tallies those of a list below the place that has been come to.
 -- Main results: seen-start, seen-skip (places that are not of the list), noted-notes (a place is noted), and how Due and Notes go on (notes-then, due-then);
 -- `fromPlace` selects the places from a place on, `below` those below one.
 use mathlib.Core.Path.{_≡_, sym, _∙_, ap, subst}
@@ -86,7 +86,7 @@ below-note i {E} r m =
     (λ q. let e = List·Memᴰ·eq-of-singleton q in in-below (Memᴰ·cast e m) (omega arith))
     (List·Memᴰ·append-cases (below i E) p))
 
--- the tables count those of E below place c
+-- the table tallies those of E below place c
 pub record Seen (n t : ℕ) (shifts E : List ℕ) (c : ℕ) (tally : List ℕ) : Type 0 where
   pub counted : Counted (layout n t shifts) (below c E) tally
 
@@ -94,7 +94,7 @@ pub record Seen (n t : ℕ) (shifts E : List ℕ) (c : ℕ) (tally : List ℕ) :
 abbrev pub All : List ℕ → ℕ → ℕ → Type 0
 All E c e = (d : ℕ) → c ≤ d → d < e → d ∈ E
 
--- the tables count places below c of some list that goes on with all places from c to e
+-- the table tallies places below c of some list that goes on with all places from c to e
 pub record Due (n t : ℕ) (shifts : List ℕ) (c e : ℕ) (tally : List ℕ) : Type 0 where
   pub sized : Sized n t shifts
   pub E : List ℕ

@@ -1,4 +1,4 @@
--- The scan of the marks, a word of 64 at a time: the tables count the erasures below the place that the scan has come to.
+-- The scan of the marks, a word of 64 at a time: the table tallies the erasures below the place that the scan has come to.
 -- Main results: the steps within a word (noting-start, noting-due, noting-more, noting-done) and the end of the scan (scanned-end);
 -- `toNote` selects the marked places from a place on.
 use mathlib.Core.Path.{_≡_, refl, sym, _∙_, ap}
@@ -58,7 +58,7 @@ rising-noted n t shifts marks a = rising-keep (λ c. leb a c) (rising-erasures (
 pub erased-noted : (n t : ℕ) (shifts marks : List ℕ) (a : ℕ) → Erased (layout n t shifts) (toNote n t shifts marks a)
 erased-noted n t shifts marks a = record { rising = rising-noted n t shifts marks a; inside = λ c m. noted-∈ n t shifts marks a m .0 }
 
--- the tables count those of them below place c
+-- the table tallies those of them below place c
 pub record Scanned (n t : ℕ) (shifts marks : List ℕ) (a c : ℕ) (tally : List ℕ) : Type 0 where
   pub seen : Seen n t shifts (toNote n t shifts marks a) c tally
 

@@ -1,4 +1,4 @@
--- Marked places in a row, whose top rows and bottom rows follow on each other: they are noted in two sweeps over the tables.
+-- Marked places in a row, whose top rows and bottom rows follow on each other: they are noted in two sweeps over the tallies.
 -- Main results: stretch-low and stretch-high (how far the rows follow), run-notes (the sweeps note the places), ones-due (a word of ones).
 use mathlib.Core.Path.{_≡_, refl, sym, _∙_, ap, subst}
 use mathlib.Core.Bool.{true}
