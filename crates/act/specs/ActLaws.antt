@@ -1,60 +1,35 @@
 -- How each command keeps its meaning: what its function did to the buffers, said of the state.
--- Main results: blank-good, new-acts, straight-acts, powers-acts, ruler-acts, shifted, symbol-set, one-marked, run-marked, shown.
+-- Main results: new-acts, straight-acts, powers-acts, ruler-acts, shifted, symbol-set, one-marked, run-marked, shown.
 use mathlib.Core.Path.{_≡_, refl, sym, _∙_, ap, subst}
-use mathlib.Core.Logic.{by-cases}
 use mathlib.Core.Bool.{true}
-use mathlib.Core.List.{List, [], _∷_, _++_}
-use Prim.Native.Nat.{ℕ, zero, suc, _+_, _-_, _*_, _/_, _≤_, _<_}
-use native.Mathlib.Decide.{ℕ-discrete}
+use mathlib.Core.List.{List, [], _∷_}
+use Prim.Native.Nat.{ℕ, _+_, _-_, _*_, _/_, _≤_, _<_}
 use native.Mathlib.Omega.{arith}
-use lib.ListN.{length, getD, set, take, drop, replicate, length-set, length-replicate}
-use lib.Seq.{take-set-lt, drop-set-lt, getD-set-same, getD-set-other, getD-take}
-use Rattle.bounds.specs.Bounds.{sizeFits}
-use Rattle.shifts.specs.Shifts.{padded}
+use lib.ListN.{length, getD, set, take, drop, length-set}
+use lib.Seq.{take-set-lt, drop-set-lt, getD-take}
+use Rattle.refusals.specs.declared.Check.the-variants.{Pass}
 use Rattle.plan.specs.Layout.{layout}
-use Rattle.plan.specs.Plans as plans
-use Rattle.plan.specs.Plans.{layoutOf, verdictOf, made, straightOf, powersOf, rulerOf}
-use Rattle.plan.specs.PlanLaws.{Fitting, good-bounds, bounds-good, size-fitting, straight-good, powers-good, ruler-good}
-use Rattle.plan.specs.declared.Plan.{Plan}
+use Rattle.plan.specs.Plans.{withShift, blankOf, layoutOf, planCheck, straightOf, powersOf, rulerOf}
+use Rattle.plan.specs.PlanLaws.{shift-good, blank-good, straight-good, powers-good, ruler-good}
 use Rattle.plan.specs.declared.Made.{Made}
-use Rattle.plan.specs.declared.Verdict.the-variants as verdict
 use Rattle.code.specs.Marks.{markBytes, NoSpare}
 use Rattle.lines.specs.Lines.{line, symbolWord}
 use Rattle.commands.specs.declared.Command.the-variants.{NewPlan, SetShift, SetSymbol, MarkOne, MarkRun, Show, Straight, Powers, Ruler}
-use Rattle.state.specs.State.{State, fresh, Marked, withShift, withPlan, withBlock}
+use Rattle.state.specs.State.{State, fresh, withPlan, withBlock}
+use Rattle.bits.specs.Bits.{Marked}
 use Rattle.state.specs.Refusals.{refusalOf}
-use Rattle.state.specs.MarkedLaws.{Bytes, marked-no-spare}
+use Rattle.bits.specs.MarkedLaws.{Bytes, marked-no-spare}
 use Rattle.act.specs.Meaning.{Means, Marking}
 use Rattle.act.specs.Acts.{stateOf, Kept, Rest, Acts, blockLength}
-use Rattle.act.specs.StateLaws.{number-good, holding, marked-take, marked-rest}
+use Rattle.act.specs.StateLaws.{holding, marked-take, marked-rest}
 use Rattle.act.specs.declared.Held.{Held}
 
 -- ---- new plans
 
-zeros-more : (n k : ℕ) → n ≤ k → replicate {A = ℕ} k 0 ≡ replicate n 0 ++ replicate (k - n) 0
-zeros-more zero k h = let e : k - 0 ≡ k = omega arith in rw e
-zeros-more (suc n) zero h = absurd (omega arith)
-zeros-more (suc n) (suc k) h = let e : suc k - suc n ≡ k - n = omega arith in rw e (ap (λ l. 0 ∷ l) (zeros-more n k (omega arith)))
-
-zeros-at : (k i : ℕ) → _≡_ {A = ℕ} (getD (replicate k 0) i 0) 0
-zeros-at zero i = refl
-zeros-at (suc k) zero = refl
-zeros-at (suc k) (suc i) = zeros-at k i
-
--- the array of zeros is that of n shifts 0
-pub blank-good : (n t : ℕ) (s : List ℕ) → s ≡ replicate 32 0 → sizeFits n t ≡ true →
-    (_≡_ {A = Plan} (record { n = n; t = t; shifts = s }) (made n t (replicate n 0) .plan)) × (verdictOf (record { n = n; t = t; shifts = s }) ≡ verdict.Good)
-unfolding made plans.plan padded
-blank-good n t s f e =
-    let size = size-fitting n t e in (
-      ap (λ (l : List ℕ). record { n = n; t = t; shifts = l }) (f ∙ zeros-more n 32 (omega arith) ∙ ap (λ x. replicate n 0 ++ replicate (32 - x) 0) (sym (length-replicate n 0))),
-      bounds-good (record { n = n; t = t; shifts = s }) (record { size = size; below = λ j h. rw (f, zeros-at 32 j) (omega (arith, size)) }),
-    )
-
 -- the plan beside a good answer is begun
-pub new-acts : {n t : ℕ} (h : Held) {v m v' m' : List ℕ} {p : Plan} {r : Held} → p ≡ made n t (replicate n 0) .plan →
-    (stateOf r v' m' ≡ fresh p) × Kept r v' m' × Rest r v m v' m' → Acts (NewPlan n t) h v m [] r v' m'
-new-acts h e b = record { means = unfold Means in (b .0 ∙ ap fresh e, refl); kept = b .1; rest = b .2 }
+pub new-acts : {n t : ℕ} (h : Held) {v m v' m' : List ℕ} {a : Made} {r : Held} → a ≡ blankOf n t →
+    (stateOf r v' m' ≡ fresh (a .plan)) × Kept r v' m' × Rest r v m v' m' → Acts (NewPlan n t) h v m [] r v' m'
+new-acts h e b = record { means = unfold Means in (b .0 ∙ ap (λ (x : Made). fresh (x .plan)) e, refl); kept = b .1; rest = b .2 }
 
 pub straight-acts : {n t : ℕ} (h : Held) {v m v' m' : List ℕ} {a : Made} {r : Held} → a ≡ straightOf n t →
     (stateOf r v' m' ≡ fresh (a .plan)) × Kept r v' m' × Rest r v m v' m' → Acts (Straight n t) h v m [] r v' m'
@@ -68,46 +43,40 @@ pub ruler-acts : {n : ℕ} (h : Held) {v m v' m' : List ℕ} {a : Made} {r : Hel
     (stateOf r v' m' ≡ fresh (a .plan)) × Kept r v' m' × Rest r v m v' m' → Acts (Ruler n) h v m [] r v' m'
 ruler-acts h e b = record { means = unfold Means in (b .0 ∙ ap (λ (x : Made). fresh (x .plan)) e, refl); kept = b .1; rest = b .2 }
 
--- a family that is not refused makes a good plan
+-- a command that makes a plan and is not refused makes a good one
 module _ (s : State) where
-  pub straight-plan : (n t : ℕ) → refusalOf s (Straight n t) ≡ 0 → {a : Made} → a ≡ straightOf n t → verdictOf (a .plan) ≡ verdict.Good
+  pub blank-plan : (n t : ℕ) → refusalOf s (NewPlan n t) ≡ Pass → {a : Made} → a ≡ blankOf n t → planCheck (a .plan) ≡ Pass
   unfolding refusalOf
-  straight-plan n t e f = subst (λ (x : Made). verdictOf (x .plan) ≡ verdict.Good) (sym f) (straight-good n t (number-good _ e))
+  blank-plan n t e f = subst (λ (x : Made). planCheck (x .plan) ≡ Pass) (sym f) (blank-good n t e)
 
-  pub powers-plan : (n t q : ℕ) → refusalOf s (Powers n t q) ≡ 0 → {a : Made} → a ≡ powersOf n t q → verdictOf (a .plan) ≡ verdict.Good
+  pub straight-plan : (n t : ℕ) → refusalOf s (Straight n t) ≡ Pass → {a : Made} → a ≡ straightOf n t → planCheck (a .plan) ≡ Pass
   unfolding refusalOf
-  powers-plan n t q e f = subst (λ (x : Made). verdictOf (x .plan) ≡ verdict.Good) (sym f) (powers-good n t q (number-good _ e))
+  straight-plan n t e f = subst (λ (x : Made). planCheck (x .plan) ≡ Pass) (sym f) (straight-good n t e)
 
-  pub ruler-plan : (n : ℕ) → refusalOf s (Ruler n) ≡ 0 → {a : Made} → a ≡ rulerOf n → verdictOf (a .plan) ≡ verdict.Good
+  pub powers-plan : (n t q : ℕ) → refusalOf s (Powers n t q) ≡ Pass → {a : Made} → a ≡ powersOf n t q → planCheck (a .plan) ≡ Pass
   unfolding refusalOf
-  ruler-plan n e f = subst (λ (x : Made). verdictOf (x .plan) ≡ verdict.Good) (sym f) (ruler-good n (number-good _ e))
+  powers-plan n t q e f = subst (λ (x : Made). planCheck (x .plan) ≡ Pass) (sym f) (powers-good n t q e)
+
+  pub ruler-plan : (n : ℕ) → refusalOf s (Ruler n) ≡ Pass → {a : Made} → a ≡ rulerOf n → planCheck (a .plan) ≡ Pass
+  unfolding refusalOf
+  ruler-plan n e f = subst (λ (x : Made). planCheck (x .plan) ≡ Pass) (sym f) (ruler-good n e)
 
 -- ---- shifts
 
-pub shifted : (h : Held) (j p : ℕ) → h .planned ≡ true → j < h .plan .n → p < h .plan .t → verdictOf (h .plan) ≡ verdict.Good →
-    length (h .plan .shifts) ≡ 32 → (v m : List ℕ) → Kept h v m →
+pub shifted : (h : Held) (j p : ℕ) → h .planned ≡ true → p < h .plan .t → planCheck (h .plan) ≡ Pass → (v m : List ℕ) → Kept h v m →
     Acts (SetShift j p) h v m [] (holding (withShift (h .plan) j p)) v m
 unfolding Means stateOf withPlan withShift markBytes layoutOf layout NoSpare
-shifted h j p planned a b g l v m k =
+shifted h j p planned b g v m k =
     record {
       means = (refl, refl);
       kept = record {
-        good = λ _. bounds-good _ (record { size = size; below = below });
+        good = λ _. shift-good (h .plan) j p g b;
         spare = λ _. k .spare planned;
         block-long = k .block-long;
         marks-long = k .marks-long;
       };
       rest = record { block = refl; marks = refl };
     }
-  where
-    size : Fitting (h .plan .n) (h .plan .t)
-    size = good-bounds (h .plan) g .size
-
-    below : (i : ℕ) → i < h .plan .n → getD (set (h .plan .shifts) j p) i 0 < h .plan .t
-    below i less =
-        by-cases (ℕ-discrete i j)
-        (λ e. rw (e, getD-set-same (h .plan .shifts) j p 0 (omega (arith, good-bounds (h .plan) g .size))) b)
-        (λ n. rw (getD-set-other (h .plan .shifts) j i p 0 n) (good-bounds (h .plan) g .below i less))
 
 -- ---- symbols and marks
 

@@ -3,10 +3,11 @@
 use mathlib.Core.Path.{_≡_}
 use mathlib.Core.Bool.{true}
 use mathlib.Core.List.{List}
-use Prim.Native.Nat.{ℕ, _*_}
+use Prim.Native.Nat.{ℕ, _*_, _/_}
 use lib.ListN.{length, take, drop}
-use Rattle.plan.specs.Plans.{layoutOf, verdictOf}
-use Rattle.plan.specs.declared.Verdict.the-variants as verdict
+use Rattle.refusals.specs.declared.Check.the-variants.{Pass}
+use Rattle.plan.specs.Plans.{layoutOf, planCheck}
+use Rattle.bounds.specs.Bounds.{maxPlaces}
 use Rattle.code.specs.Marks.{markBytes, NoSpare}
 use Rattle.commands.specs.declared.Command.{Command}
 use Rattle.state.specs.State.{State}
@@ -15,10 +16,10 @@ use Rattle.act.specs.declared.Held.{Held}
 
 -- the buffers hold the largest block and its marks
 abbrev pub blockLength : ℕ
-blockLength = 32768
+blockLength = maxPlaces
 
 abbrev pub marksLength : ℕ
-marksLength = 4096
+marksLength = maxPlaces / 8
 
 -- the state: its block is the first n × t of the block buffer, its marks the first bytes of the mark buffer
 unfoldable pub stateOf : Held → List ℕ → List ℕ → State
@@ -31,7 +32,7 @@ stateOf h v m = record {
 
 -- what every command keeps: a plan that is held is good, its marks have no spare bit, the buffers have their lengths
 pub record Kept (h : Held) (v m : List ℕ) : Type 0 where
-  pub good : h .planned ≡ true → verdictOf (h .plan) ≡ verdict.Good
+  pub good : h .planned ≡ true → planCheck (h .plan) ≡ Pass
   pub spare : h .planned ≡ true → NoSpare (layoutOf (h .plan)) (take (markBytes (layoutOf (h .plan))) m)
   pub block-long : length v ≡ blockLength
   pub marks-long : length m ≡ marksLength

@@ -4,3 +4,4 @@ pub mod Acts
 pub mod StateLaws
 pub mod ActLaws
 pub mod MeaningOnce
+pub mod ActsOnce

@@ -3,7 +3,7 @@ use mathlib.Core.Path.{_≡_}
 use mathlib.Core.List.{List, [], _∷_, map}
 use Prim.Native.Nat.{ℕ}
 use lib.ListN.{length, set, take, replicate}
-use Rattle.plan.specs.Plans.{layoutOf, made, straightOf, powersOf, rulerOf}
+use Rattle.plan.specs.Plans.{withShift, layoutOf, blankOf, straightOf, powersOf, rulerOf}
 use Rattle.code.specs.Codewords.{at}
 use Rattle.code.specs.Marks.{markBytes, erasures}
 use Rattle.code.specs.Messages.{Message, Lists, Carries}
@@ -14,7 +14,8 @@ use Rattle.promises.specs.declared.Recovery.the-variants as recovery
 use Rattle.lines.specs.Lines.{line, recoveredWord, looseWord, crossedWord, sealedWord, symbolWord, figuresWord}
 use Rattle.commands.specs.declared.Command.{Command}
 use Rattle.commands.specs.declared.Command.the-variants.{NewPlan, SetShift, SetSymbol, MarkOne, MarkRun, Recover, Seal, Show, Figures, Straight, Powers, Ruler}
-use Rattle.state.specs.State.{State, fresh, Marked, withShift, withPlan, withBlock}
+use Rattle.state.specs.State.{State, fresh, withPlan, withBlock}
+use Rattle.bits.specs.Bits.{Marked}
 
 -- what recovery writes and leaves: "`recovered` and the count of marks; `loose` or `crossed`, count, list"; "success clears the marks"
 pub record Recovering (s s' : State) (text : List ℕ) : Type 0 where
@@ -55,7 +56,7 @@ pub record Marking (s s' : State) (v : List ℕ) (c k b : ℕ) : Type 0 where
 
 -- what a command that is not refused means: the state after it and what it writes
 unfoldable pub Means : Command → State → State → List ℕ → Type 0
-Means (NewPlan n t) s s' text = (s' ≡ fresh (made n t (replicate n 0) .plan)) × (text ≡ [])
+Means (NewPlan n t) s s' text = (s' ≡ fresh (blankOf n t .plan)) × (text ≡ [])
 Means (SetShift j p) s s' text = (s' ≡ withPlan s (withShift (s .plan) j p)) × (text ≡ [])
 Means (SetSymbol c v) s s' text = Marking s s' (set (s .block) c v) c 1 0 × (text ≡ [])
 Means (MarkOne c) s s' text = Marking s s' (s .block) c 1 1 × (text ≡ [])

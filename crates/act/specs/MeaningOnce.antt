@@ -1,23 +1,18 @@
 -- A command that is not refused means one thing: one state after it and one text. And it keeps a state standing.
 -- Main definition: Standing. Main results: means-stands, means-once.
 use mathlib.Core.Path.{_≡_, refl, sym, _∙_, ap, subst}
-use mathlib.Core.Logic.{by-cases}
 use mathlib.Core.Bool.{true}
 use mathlib.Core.List.{List, [], _∷_, map}
-use Prim.Native.Nat.{ℕ, _<_}
-use native.Mathlib.Nat.{le-antisymm}
-use native.Mathlib.Decide.{ℕ-discrete, decLt}
-use native.Mathlib.Omega.{arith}
-use lib.ListN.{length, getD, set, take, replicate}
-use lib.Seq.{getD-set-same, getD-set-other, set-out}
-use Rattle.plan.specs.Plans.{layoutOf, verdictOf, made, straightOf, powersOf, rulerOf}
-use Rattle.plan.specs.PlanLaws.{good-bounds, good-valid, bounds-good}
+use Prim.Native.Nat.{ℕ}
+use lib.ListN.{length, take, replicate}
+use Rattle.refusals.specs.declared.Check.the-variants.{Pass}
+use Rattle.plan.specs.Plans.{blankOf, layoutOf, planCheck, straightOf, powersOf, rulerOf}
+use Rattle.plan.specs.PlanLaws.{good-valid, shift-good}
 use Rattle.plan.specs.declared.Plan.{Plan}
-use Rattle.plan.specs.declared.Verdict.the-variants as verdict
 use Rattle.code.specs.Codewords.{at}
 use Rattle.code.specs.Marks.{markBytes}
 use Rattle.code.specs.Messages.{Carries}
-use Rattle.code.specs.Figures as code
+use Rattle.code.specs.FiguresOnce.{figures-unique}
 use Rattle.code.specs.Laws.Carrying.{lists-unique}
 use Rattle.code.specs.Laws.MarksLaws.{erasures-erased}
 use Rattle.promises.specs.Building.{carries-single}
@@ -27,20 +22,20 @@ use Rattle.promises.specs.declared.Recovery.the-variants as recovery
 use Rattle.lines.specs.Lines.{line, looseWord, crossedWord, sealedWord, figuresWord}
 use Rattle.commands.specs.declared.Command.{Command}
 use Rattle.commands.specs.declared.Command.the-variants.{NewPlan, SetShift, SetSymbol, MarkOne, MarkRun, Recover, Seal, Show, Figures, Straight, Powers, Ruler}
-use Rattle.state.specs.State.{State, fresh, withShift, withPlan, withBlock}
+use Rattle.state.specs.State.{State, fresh, withPlan, withBlock}
 use Rattle.state.specs.Refusals.{refusalOf}
-use Rattle.state.specs.MarkedOnce.{marked-once}
+use Rattle.bits.specs.MarkedOnce.{marked-once}
 use Rattle.act.specs.Meaning.{Means, Recovering, Sealing, Figuring, Marking}
-use Rattle.act.specs.StateLaws.{place-inside, mark-inside, run-inside, shift-inside, size-inside, recover-planned, seal-planned}
-use Rattle.act.specs.ActLaws.{blank-good, straight-plan, powers-plan, ruler-plan}
+use Rattle.act.specs.StateLaws.{place-inside, mark-inside, run-inside, shift-inside, recover-planned, seal-planned}
+use Rattle.act.specs.ActLaws.{blank-plan, straight-plan, powers-plan, ruler-plan}
 
 -- a state that a job can be in: a plan that is held is good
 pub record Standing (s : State) : Type 0 where
-  pub good : s .planned ≡ true → verdictOf (s .plan) ≡ verdict.Good
+  pub good : s .planned ≡ true → planCheck (s .plan) ≡ Pass
 
 -- ---- standing is kept
 
-fresh-stands : {s : State} (p : Plan) → verdictOf p ≡ verdict.Good → s ≡ fresh p → Standing s
+fresh-stands : {s : State} (p : Plan) → planCheck p ≡ Pass → s ≡ fresh p → Standing s
 unfolding fresh
 fresh-stands p g e = rw e (record { good = λ _. g })
 
@@ -60,23 +55,10 @@ recovering-stands {s} {s'} k planned r = go (r .answer) refl
     go (recovery.Crossed z) e = same-stands k (r .crossed z e .1)
     go (recovery.Refused x) e = absurd (r .decides .not-refused x e)
 
-shift-good : (p : Plan) (j x : ℕ) → verdictOf p ≡ verdict.Good → x < p .t → verdictOf (withShift p j x) ≡ verdict.Good
-unfolding withShift
-shift-good p j x g h = bounds-good _ (record { size = good-bounds p g .size; below = below })
-  where
-    below : (i : ℕ) → i < p .n → getD (set (p .shifts) j x) i 0 < p .t
-    below i less =
-        by-cases (decLt j (length (p .shifts)))
-        (λ l. by-cases (ℕ-discrete i j)
-        (λ e. rw (e, getD-set-same (p .shifts) j x 0 l) h)
-        (λ n. rw (getD-set-other (p .shifts) j i x 0 n) (good-bounds p g .below i less)))
-        (λ n. rw (set-out (p .shifts) j x (omega arith)) (good-bounds p g .below i less))
-
 -- a command that is not refused keeps a state standing
-pub means-stands : {s s' : State} (text : List ℕ) → Standing s → (c : Command) → refusalOf s c ≡ 0 → Means c s s' text → Standing s'
+pub means-stands : {s s' : State} (text : List ℕ) → Standing s → (c : Command) → refusalOf s c ≡ Pass → Means c s s' text → Standing s'
 unfolding Means withPlan
-means-stands {s} text k (NewPlan n t) e m = let g = blank-good n t (replicate 32 0) refl (size-inside s n t e) in
-    fresh-stands (made n t (replicate n 0) .plan) (subst (λ (p : Plan). verdictOf p ≡ verdict.Good) (g .0) (g .1)) (m .0)
+means-stands {s} text k (NewPlan n t) e m = fresh-stands (blankOf n t .plan) (blank-plan s n t e refl) (m .0)
 means-stands {s} text k (SetShift j p) e m = let h = shift-inside s j p e in rw (m .0) (record { good = λ _. shift-good (s .plan) j p (k .good (h .0)) (h .2) })
 means-stands {s} text k (SetSymbol c v) e m = block-stands _ _ k (place-inside s c v e .0) (m .0 .state)
 means-stands {s} text k (MarkOne c) e m = block-stands _ _ k (mark-inside s c e .0) (m .0 .state)
@@ -101,21 +83,13 @@ marking-once {s} {a} {b} {v} p q = p .state ∙ ap (withBlock s v) (marked-once 
 marks-once : {s a b : State} {v x y : List ℕ} {c k n : ℕ} → Marking s a v c k n × (x ≡ []) → Marking s b v c k n × (y ≡ []) → (a ≡ b) × (x ≡ y)
 marks-once p q = (marking-once (p .0) (q .0), p .1 ∙ sym (q .1))
 
-least-once : {P : ℕ → Type 0} {x y : ℕ} → code.Least P x → code.Least P y → x ≡ y
-least-once {P} {x} {y} p q = le-antisymm (p .least y (q .has)) (q .least x (p .has))
-
 figuring-once : {s a b : State} {x y : List ℕ} → Figuring s a x → Figuring s b y → (a ≡ b) × (x ≡ y)
 figuring-once {s} {a} {b} {x} {y} p q =
-    let f = p .figures in
-    let g = q .figures in
-    let parity : p .parity ≡ q .parity = sym (f .parity-places .1 .1) ∙ ap length (lists-unique (f .parity-places .1 .0) (g .parity-places .1 .0)) ∙ g .parity-places .1 .1 in
-    let pair : p .pair ≡ q .pair = least-once (f .pair-figure) (g .pair-figure) in
-    let neighbour : p .neighbour ≡ q .neighbour = least-once (f .neighbour-figure) (g .neighbour-figure) in
-    let distance : p .distance ≡ q .distance = least-once (f .distance-is) (g .distance-is) in
-    (p .state ∙ sym (q .state), p .says ∙ ap (line figuresWord) (cc) ∙ sym (q .says))
+    let e = figures-unique (p .figures) (q .figures) in
+    (p .state ∙ sym (q .state), p .says ∙ ap (line figuresWord) (cc (e .0, e .1, e .2, e .3)) ∙ sym (q .says))
 
 -- the one codeword that carries the data
-sealing-once : {s a b : State} {x y : List ℕ} → verdictOf (s .plan) ≡ verdict.Good → Sealing s a x → Sealing s b y → (a ≡ b) × (x ≡ y)
+sealing-once : {s a b : State} {x y : List ℕ} → planCheck (s .plan) ≡ Pass → Sealing s a x → Sealing s b y → (a ≡ b) × (x ≡ y)
 sealing-once {s} {a} {b} {x} {y} good p q =
     let e : p .places ≡ q .places = lists-unique (p .message-places) (q .message-places) in
     let one = carries-single (s .plan) (good-valid (s .plan) good) (p .carries) in
@@ -127,7 +101,7 @@ sealing-once {s} {a} {b} {x} {y} good p q =
     )
 
 -- recovery decides one way, and shows one list
-recovering-once : {s a b : State} {x y : List ℕ} → verdictOf (s .plan) ≡ verdict.Good → Recovering s a x → Recovering s b y → (a ≡ b) × (x ≡ y)
+recovering-once : {s a b : State} {x y : List ℕ} → planCheck (s .plan) ≡ Pass → Recovering s a x → Recovering s b y → (a ≡ b) × (x ≡ y)
 recovering-once {s} {a} {b} {x} {y} good p q = go (p .answer) refl
   where
     same : (p .answer ≡ q .answer) × (p .list ≡ q .list) × (p .answer ≡ recovery.Recovered → p .block ≡ q .block)
@@ -149,7 +123,7 @@ recovering-once {s} {a} {b} {x} {y} good p q = go (p .answer) refl
     go (recovery.Refused r) e = absurd (p .decides .not-refused r e)
 
 -- a command that is not refused leaves one state and writes one text
-pub means-once : {s a b : State} {x y : List ℕ} → Standing s → (c : Command) → refusalOf s c ≡ 0 → Means c s a x → Means c s b y → (a ≡ b) × (x ≡ y)
+pub means-once : {s a b : State} {x y : List ℕ} → Standing s → (c : Command) → refusalOf s c ≡ Pass → Means c s a x → Means c s b y → (a ≡ b) × (x ≡ y)
 unfolding Means
 means-once {s} k (NewPlan n t) e p q = both p q
 means-once {s} k (SetShift j d) e p q = both p q

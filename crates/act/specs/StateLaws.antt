@@ -1,89 +1,75 @@
 -- What a command that is not refused says of the plan; the parts of the lent buffers that are the state.
--- Main results: place-inside, mark-inside, show-inside, run-inside, shift-inside, has-plan, size-inside, number-good; places-most, bytes-most;
+-- Main results: place-inside, mark-inside, show-inside, run-inside, shift-inside; places-most, bytes-most;
 -- cleared-front, part-rest, begun, marked-take, marked-rest.
-use mathlib.Core.Path.{_≡_, refl, sym, _∙_, ap, subst}
-use mathlib.Core.Logic.{_⊎_, inr, by-cases, ⊎-elim}
-use mathlib.Core.Bool.{Bool, true, false, cond}
+use mathlib.Core.Path.{_≡_, refl, sym, _∙_, ap}
+use mathlib.Core.Logic.{inr, by-cases}
+use mathlib.Core.Bool.{Bool, true, false}
 use mathlib.Core.List.{List, [], _++_}
 use Prim.Native.Nat.{ℕ, zero, suc, _+_, _-_, _*_, _/_, _%_, _^_, _≤_, _<_, min}
 use native.Mathlib.Decide.{decLt}
 use native.Mathlib.Omega.{arith}
-use lib.Dec.{leb, ltb}
-use lib.ListN.{length, getD, set, take, drop, replicate, length-take, length-replicate, length-append, length-drop, List·getD-eq-default}
+use lib.ListN.{length, getD, take, drop, replicate, length-take, length-replicate, length-drop, List·getD-eq-default}
 use lib.Seq.{take-at, drop-at, length-take-le, length-front, getD-take, getD-drop, ext-getD}
 use borrow.Author.Tests.{ltb-true, leb-true}
-use Rattle.bounds.specs.Bounds.{sizeFits}
-use Rattle.plan.specs.Layout.{Layout, layout}
-use Rattle.plan.specs.Plans.{layoutOf, verdictOf, numberOf}
+use Rattle.refusals.specs.declared.Check.the-variants.{Pass}
+use Rattle.refusals.specs.RefusalLaws.{pass-not-stop, unless-pass}
+use Rattle.refusals.specs.declared.Refusal.the-variants.{Early, Shift}
+use Rattle.refusals.specs.declared.Check.{Check}
+use Rattle.plan.specs.Layout.{layout}
+use Rattle.plan.specs.Plans.{layoutOf, planCheck}
 use Rattle.plan.specs.PlanLaws.{good-bounds}
 use Rattle.plan.specs.declared.Plan.{Plan}
-use Rattle.plan.specs.declared.Verdict.{Verdict}
-use Rattle.plan.specs.declared.Verdict.the-variants as verdict
 use Rattle.code.specs.Codewords.{bitOf}
-use Rattle.code.specs.Marks.{mark, markBytes, NoSpare}
+use Rattle.code.specs.Marks.{mark, markBytes}
 use Rattle.code.specs.Laws.MarksLaws.{bit-zero, bit-suc, mark-at}
-use Rattle.commands.specs.declared.Command.{Command}
-use Rattle.commands.specs.declared.Command.the-variants.{NewPlan, SetShift, SetSymbol, MarkOne, MarkRun, Recover, Seal, Show, Figures, Straight, Powers, Ruler}
-use Rattle.state.specs.State.{State, fresh, Marked}
+use Rattle.commands.specs.declared.Command.the-variants.{SetShift, SetSymbol, MarkOne, MarkRun, Recover, Seal, Show, Figures}
+use Rattle.state.specs.State.{State, fresh}
+use Rattle.bits.specs.Bits.{Marked}
 use Rattle.state.specs.Refusals.{early, refusalOf}
-use Rattle.state.specs.MarkedLaws.{Bytes, no-marks-no-spare}
+use Rattle.bits.specs.MarkedLaws.{Bytes, no-marks-no-spare}
 use Rattle.act.specs.Acts.{stateOf, Kept, Rest, blockLength, marksLength}
 use Rattle.act.specs.declared.Held.{Held}
 
 -- ---- a command that is not refused
 
-pub number-good : (a : Verdict) → numberOf a ≡ 0 → a ≡ verdict.Good
-number-good verdict.Good e = refl
-number-good verdict.Size e = absurd (omega arith)
-number-good verdict.Shift e = absurd (omega arith)
-number-good verdict.Family e = absurd (omega arith)
-
-not-early : (a b : Bool) (x : ℕ) → early a b x ≡ 0 → (a ≡ true) × (b ≡ true) × (x ≡ 0)
+not-early : (a b : Bool) (x : Check) → early a b x ≡ Pass → (a ≡ true) × (b ≡ true) × (x ≡ Pass)
 unfolding early
 not-early true true x e = (refl, refl, e)
-not-early true false x e = absurd (omega arith)
-not-early false b x e = absurd (omega arith)
-
-taken : (b : Bool) {x : ℕ} → (x ≡ 0 → ⊥) → cond b 0 x ≡ 0 → b ≡ true
-taken true n e = refl
-taken false n e = absurd (n e)
+not-early true false x e = absurd (pass-not-stop Early (sym e))
+not-early false b x e = absurd (pass-not-stop Early (sym e))
 
 module _ (s : State) where
-  pub place-inside : (c v : ℕ) → refusalOf s (SetSymbol c v) ≡ 0 → (s .planned ≡ true) × (c < s .plan .n * s .plan .t)
+  pub place-inside : (c v : ℕ) → refusalOf s (SetSymbol c v) ≡ Pass → (s .planned ≡ true) × (c < s .plan .n * s .plan .t)
   unfolding refusalOf
   place-inside c v e = let r = not-early _ _ _ e in (r .0, ltb-true _ _ (r .1))
 
-  pub mark-inside : (c : ℕ) → refusalOf s (MarkOne c) ≡ 0 → (s .planned ≡ true) × (c < s .plan .n * s .plan .t)
+  pub mark-inside : (c : ℕ) → refusalOf s (MarkOne c) ≡ Pass → (s .planned ≡ true) × (c < s .plan .n * s .plan .t)
   unfolding refusalOf
   mark-inside c e = let r = not-early _ _ _ e in (r .0, ltb-true _ _ (r .1))
 
-  pub show-inside : (c : ℕ) → refusalOf s (Show c) ≡ 0 → (s .planned ≡ true) × (c < s .plan .n * s .plan .t)
+  pub show-inside : (c : ℕ) → refusalOf s (Show c) ≡ Pass → (s .planned ≡ true) × (c < s .plan .n * s .plan .t)
   unfolding refusalOf
   show-inside c e = let r = not-early _ _ _ e in (r .0, ltb-true _ _ (r .1))
 
-  pub run-inside : (c m : ℕ) → refusalOf s (MarkRun c m) ≡ 0 → (s .planned ≡ true) × (c + m ≤ s .plan .n * s .plan .t)
+  pub run-inside : (c m : ℕ) → refusalOf s (MarkRun c m) ≡ Pass → (s .planned ≡ true) × (c + m ≤ s .plan .n * s .plan .t)
   unfolding refusalOf
   run-inside c m e = let r = not-early _ _ _ e in (r .0, leb-true _ _ (r .1))
 
-  pub shift-inside : (j p : ℕ) → refusalOf s (SetShift j p) ≡ 0 → (s .planned ≡ true) × (j < s .plan .n) × (p < s .plan .t)
+  pub shift-inside : (j p : ℕ) → refusalOf s (SetShift j p) ≡ Pass → (s .planned ≡ true) × (j < s .plan .n) × (p < s .plan .t)
   unfolding refusalOf
-  shift-inside j p e = let r = not-early _ _ _ e in (r .0, ltb-true _ _ (r .1), ltb-true _ _ (taken _ (λ q. omega arith) (r .2)))
+  shift-inside j p e = let r = not-early _ _ _ e in (r .0, ltb-true _ _ (r .1), ltb-true _ _ (unless-pass _ Shift (r .2)))
 
-  pub recover-planned : refusalOf s Recover ≡ 0 → s .planned ≡ true
+  pub recover-planned : refusalOf s Recover ≡ Pass → s .planned ≡ true
   unfolding refusalOf
   recover-planned e = not-early _ _ _ e .0
 
-  pub seal-planned : refusalOf s Seal ≡ 0 → s .planned ≡ true
+  pub seal-planned : refusalOf s Seal ≡ Pass → s .planned ≡ true
   unfolding refusalOf
   seal-planned e = not-early _ _ _ e .0
 
-  pub figures-planned : refusalOf s Figures ≡ 0 → s .planned ≡ true
+  pub figures-planned : refusalOf s Figures ≡ Pass → s .planned ≡ true
   unfolding refusalOf
   figures-planned e = not-early _ _ _ e .0
-
-  pub size-inside : (n t : ℕ) → refusalOf s (NewPlan n t) ≡ 0 → sizeFits n t ≡ true
-  unfolding refusalOf
-  size-inside n t e = taken _ (λ q. omega arith) e
 
 -- ---- the lengths
 
@@ -91,9 +77,9 @@ pub bytes-of : (p : Plan) → markBytes (layoutOf p) ≡ (p .n * p .t + 7) / 8
 unfolding markBytes layoutOf layout
 bytes-of p = refl
 
-module _ (p : Plan) (g : verdictOf p ≡ verdict.Good) where
+module _ (p : Plan) (g : planCheck p ≡ Pass) where
   pub places-most : p .n * p .t ≤ blockLength
-  places-most = good-bounds p g .size .places-most
+  places-most = good-bounds p g .places-max
 
   pub bytes-most : (p .n * p .t + 7) / 8 ≤ marksLength
   bytes-most = omega (arith, places-most)
@@ -136,7 +122,7 @@ part-rest k v a h e = drop-at a (drop k v) k (e ∙ length-take-le k v h)
 abbrev pub holding : Plan → Held
 holding p = record { planned = true; plan = p }
 
-pub begun : (p : Plan) (v m v' m' : List ℕ) → verdictOf p ≡ verdict.Good → length v' ≡ blockLength → length m' ≡ marksLength →
+pub begun : (p : Plan) (v m v' m' : List ℕ) → planCheck p ≡ Pass → length v' ≡ blockLength → length m' ≡ marksLength →
     take (p .n * p .t) v' ≡ replicate (p .n * p .t) 0 → take ((p .n * p .t + 7) / 8) m' ≡ replicate ((p .n * p .t + 7) / 8) 0 →
     drop (p .n * p .t) v' ≡ drop (p .n * p .t) v → drop ((p .n * p .t + 7) / 8) m' ≡ drop ((p .n * p .t + 7) / 8) m →
     (stateOf (holding p) v' m' ≡ fresh p) × Kept (holding p) v' m' × Rest (holding p) v m v' m'

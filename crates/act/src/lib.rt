@@ -1,4 +1,5 @@
 // Single commands of a job on the lent state, a function for each. The command is not refused.
+// Public for the crates above only.
 ghost use mathlib.Core.Path.{_≡_};
 ghost use Rattle.act.specs.Acts.{blockLength, marksLength};
 use plan::Plan;
@@ -13,9 +14,9 @@ pub struct Held {
 }
 
 // The lengths of the buffers: the largest block, and its marks.
-pub const BLOCK: usize = 32768;
+pub const BLOCK: usize = Plan::MAX_PLACES;
 
-pub const MARKS: usize = 4096;
+pub const MARKS: usize = Plan::MAX_PLACES / 8;
 
 pub fn block_length() -> usize
     ensures { λ r. ⌜ r ≡ blockLength ⌝ }

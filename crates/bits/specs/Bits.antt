@@ -1,18 +1,32 @@
--- Marks by bytes: that none is set from a place on, and the ones of the first bytes.
+-- Marks over a stretch of places: that none is set in it or from a place on, the ones of the first bytes, and a stretch set or cleared.
+-- The number of marked places of a stretch is `markCount` (code/specs/Marks.antt).
+use mathlib.Core.Path.{_≡_}
+use mathlib.Core.Logic.{_⊎_}
 use mathlib.Core.Bool.{Bool}
 use mathlib.Core.List.{List}
-use Prim.Native.Nat.{ℕ, _-_, _*_}
+use Prim.Native.Nat.{ℕ, _+_, _-_, _*_, _≤_, _<_}
 use lib.Dec.{eqb}
 use lib.Count.{ones}
 use lib.ListN.{length, getD}
 use Rattle.math.specs.Members.{upTo}
 use Rattle.math.specs.Sums.{sumOver}
-use Rattle.code.specs.Marks.{markCount}
+use Rattle.code.specs.Marks.{mark, markCount}
+
+-- none of the k places from a on is marked
+abbrev pub noneIn : List ℕ → ℕ → ℕ → Bool
+noneIn m a k = eqb (markCount m a k) 0
 
 -- no bit of the marks is 1 from place a on
 unfoldable pub noneFrom : List ℕ → ℕ → Bool
-noneFrom m a = eqb (markCount m a (8 * length m - a)) 0
+noneFrom m a = noneIn m a (8 * length m - a)
 
 -- the number of ones in the first k mark bytes
 unfoldable pub onesOf : List ℕ → ℕ → ℕ
 onesOf m k = sumOver (upTo k) (λ i. ones (getD m i 0))
+
+-- marks m' are m with the bits of k places from c on set to b, all others as before
+pub record Marked (m : List ℕ) (c k b : ℕ) (m' : List ℕ) : Type 0 where
+  pub long : length m' ≡ length m
+  pub bytes : (i : ℕ) → getD m' i 0 < 256
+  pub these : (d : ℕ) → c ≤ d → d < c + k → mark m' d ≡ b
+  pub others : (d : ℕ) → (d < c) ⊎ (c + k ≤ d) → mark m' d ≡ mark m d

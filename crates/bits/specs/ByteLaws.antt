@@ -1,34 +1,30 @@
--- Counting the marks by bytes: the bits of one byte from bit b on, that none is set from a place on, and the ones of the first bytes.
--- Main results: none-past, none-clear, none-set, byte-clear, byte-set, none-marked, onesOf-none, onesOf-more.
+-- Counting the marks by bytes: the places of one byte, and that none is set from a place on.
+-- Main results: part-count, none-past, none-clear, none-set, count-none, none-marked.
 use mathlib.Core.Path.{_≡_, refl, sym, _∙_, ap, ap₂, subst}
 use mathlib.Core.Logic.{_≢_, by-cases}
 use mathlib.Core.Bool.{true, false}
 use mathlib.Core.List.{List}
 use Prim.Native.Nat.{ℕ, zero, suc, _+_, _-_, _*_, _/_, _%_, _^_, _≤_, _<_}
-use native.Mathlib.Nat.{add-zero, pow-suc}
+use native.Mathlib.Nat.{pow-suc}
 use native.Mathlib.Decide.{ℕ-discrete}
 use native.Mathlib.Numerals.{add-one}
 use native.Mathlib.Omega.{arith}
 use lib.Dec.{eqb}
 use lib.Count.{ones, onesIn, ones-step, ones-le}
 use lib.ListN.{length, getD}
-use lib.Pow.{shr-shr, shr-lt}
+use lib.Pow.{field, mod-mod-pow, shr-shr, shr-lt, shr-mod}
 use borrow.Author.Tests.{eq-eqb, ne-eqb, eqb-true}
-use Rattle.math.specs.Members.{from, upTo}
-use Rattle.math.specs.MembersLaws.{upTo-suc}
-use Rattle.math.specs.Sums.{sumOver}
-use Rattle.math.specs.SumsLaws.{sumOver-append}
 use Rattle.code.specs.Codewords.{bitOf}
 use Rattle.code.specs.Marks.{mark, markCount}
 use Rattle.code.specs.Laws.MarksLaws.{mark-at, markCount-none, markCount-one, markCount-split, markCount-suc}
-use Rattle.bits.specs.Bits.{noneFrom, onesOf}
+use Rattle.bits.specs.Bits.{noneFrom}
 
-ones-zero : ones 0 ≡ 0
+pub ones-zero : ones 0 ≡ 0
 unfolding ones onesIn
 ones-zero = refl
 
 -- a number with no digit set is 0
-ones-none : (k y : ℕ) → y < 2 ^ k → ones y ≡ 0 → y ≡ 0
+pub ones-none : (k y : ℕ) → y < 2 ^ k → ones y ≡ 0 → y ≡ 0
 ones-none zero y h e = omega arith
 ones-none (suc k) y h e =
     let s = ones-step y in
@@ -36,21 +32,28 @@ ones-none (suc k) y h e =
     let r : y / 2 ≡ 0 = ones-none k (y / 2) (omega arith) (omega arith) in
     omega arith
 
--- the marks of byte i from bit b on
-byte-rest : (m : List ℕ) (i k b : ℕ) → b + k ≡ 8 → getD m i 0 < 256 → markCount m (8 * i + b) k ≡ ones (getD m i 0 / 2 ^ b)
-byte-rest m i zero b e h =
-    let f : b ≡ 8 = omega arith in
-    let g : getD m i 0 / 256 ≡ 0 = omega arith in
-    markCount-none m (8 * i + b) ∙ sym ones-zero ∙ ap ones (sym g) ∙ ap (λ x. ones (getD m i 0 / 2 ^ x)) (sym f)
-byte-rest m i (suc k) b e h =
+-- the marks of the k places from bit b of byte i on are the ones of its bits there
+pub part-count : (m : List ℕ) (i b k : ℕ) → b + k ≤ 8 → markCount m (8 * i + b) k ≡ ones (getD m i 0 / 2 ^ b % 2 ^ k)
+part-count m i b zero h =
+    let e : getD m i 0 / 2 ^ b % 1 ≡ 0 = omega arith in
+    markCount-none m (8 * i + b) ∙ sym ones-zero ∙ ap ones (sym e)
+part-count m i b (suc k) h =
+    let y = getD m i 0 / 2 ^ b in
     let one : suc k ≡ 1 + k = omega arith in
     let next : 8 * i + b + 1 ≡ 8 * i + (b + 1) = omega arith in
-    let bit : mark m (8 * i + b) ≡ getD m i 0 / 2 ^ b % 2 = unfold bitOf in mark-at m i b (omega arith) in
-    let half : getD m i 0 / 2 ^ b / 2 ≡ getD m i 0 / 2 ^ (b + 1) = shr-shr (getD m i 0) b 1 in
+    let bit : mark m (8 * i + b) ≡ y % 2 = unfold bitOf in mark-at m i b (omega arith) in
+    let low : y % 2 ^ (k + 1) % 2 ≡ y % 2 = mod-mod-pow y k 1 in
+    let high : y % 2 ^ (k + 1) / 2 ≡ getD m i 0 / 2 ^ (b + 1) % 2 ^ k = field y k 1 ∙ ap (λ z. z % 2 ^ k) (shr-shr (getD m i 0) b 1) in
     ap (markCount m (8 * i + b)) one
     ∙ markCount-split m (8 * i + b) 1 k
-    ∙ ap₂ _+_ (markCount-one m (8 * i + b) ∙ bit) (ap (λ a. markCount m a k) next ∙ byte-rest m i k (b + 1) (omega arith) h ∙ ap ones (sym half))
-    ∙ sym (ones-step (getD m i 0 / 2 ^ b))
+    ∙ ap₂ _+_ (markCount-one m (8 * i + b) ∙ bit ∙ sym low) (ap (λ a. markCount m a k) next ∙ part-count m i (b + 1) k (omega arith) ∙ ap ones (sym high))
+    ∙ sym (ones-step (y % 2 ^ (k + 1)))
+    ∙ ap (λ x. ones (y % 2 ^ x)) (add-one k)
+
+-- the marks of byte i from bit b on
+byte-rest : (m : List ℕ) (i k b : ℕ) → k + b ≡ 8 → getD m i 0 < 256 → markCount m (8 * i + b) k ≡ ones (getD m i 0 / 2 ^ b)
+byte-rest m i k b e h =
+    part-count m i b k (omega arith) ∙ ap ones (shr-mod k b (subst (λ (x : ℕ). getD m i 0 < 2 ^ x) (sym e) h))
 
 -- the marks from place a on: those of its byte, and those of the bytes after it
 rest-split : (m : List ℕ) (a : ℕ) → a / 8 < length m → getD m (a / 8) 0 < 256 →
@@ -89,22 +92,8 @@ none-set m a l f n =
     let small : getD m (a / 8) 0 / 2 ^ (a % 8) < 2 ^ (8 - a % 8) = shr-lt (8 - a % 8) (a % 8) (subst (λ (x : ℕ). getD m (a / 8) 0 < 2 ^ x) (sym e) f) in
     sym (ne-eqb (markCount m a (8 * length m - a)) 0 (λ z. n (ones-none (8 - a % 8) (getD m (a / 8) 0 / 2 ^ (a % 8)) small (omega arith))))
 
--- the same from byte i on
-pub byte-clear : (m : List ℕ) (i : ℕ) → i < length m → getD m i 0 ≡ 0 → noneFrom m (8 * (i + 1)) ≡ noneFrom m (8 * i)
-byte-clear m i l e =
-    let d : 8 * i / 8 ≡ i = omega arith in
-    let r : 8 * i % 8 ≡ 0 = omega arith in
-    let c = none-clear m (8 * i) (omega arith) (rw (d, e) (omega arith)) (rw (d, r, e) (omega arith)) in
-    ap (λ (x : ℕ). noneFrom m (8 * (x + 1))) (sym d) ∙ c
-
-pub byte-set : (m : List ℕ) (i : ℕ) → i < length m → getD m i 0 < 256 → getD m i 0 ≢ 0 → false ≡ noneFrom m (8 * i)
-byte-set m i l f n =
-    let d : 8 * i / 8 ≡ i = omega arith in
-    let r : 8 * i % 8 ≡ 0 = omega arith in
-    none-set m (8 * i) (omega arith) (rw d f) (rw (d, r) (λ z. n (omega arith)))
-
 -- what is counted as none has no mark
-count-none : (m : List ℕ) (a k : ℕ) → markCount m a k ≡ 0 → (d : ℕ) → d < k → mark m (a + d) ≡ 0
+pub count-none : (m : List ℕ) (a k : ℕ) → markCount m a k ≡ 0 → (d : ℕ) → d < k → mark m (a + d) ≡ 0
 count-none m a zero e d h = absurd (omega arith)
 count-none m a (suc k) e d h =
     let s : markCount m a (suc k) ≡ markCount m a k + mark m (a + k) = rw (← add-one k) (markCount-suc m a k) in
@@ -116,16 +105,6 @@ none-marked m a e c h l =
     let z = eqb-true (markCount m a (8 * length m - a)) 0 e in
     let s : a + (c - a) ≡ c = omega arith in
     ap (mark m) (sym s) ∙ count-none m a (8 * length m - a) z (c - a) (omega arith)
-
--- ---- the ones of the first bytes
-
-pub onesOf-none : (m : List ℕ) → onesOf m 0 ≡ 0
-unfolding onesOf upTo from sumOver
-onesOf-none m = refl
-
-pub onesOf-more : (m : List ℕ) (k : ℕ) → onesOf m (k + 1) ≡ onesOf m k + ones (getD m k 0)
-unfolding onesOf sumOver
-onesOf-more m k = rw (add-one k, upTo-suc k, sumOver-append) (ap (λ x. onesOf m k + x) (add-zero (ones (getD m k 0))))
 
 -- a byte has at most 8
 pub byte-ones : {x : ℕ} → x < 256 → ones x ≤ 8

@@ -1,3 +1,8 @@
--- Marks by bytes, and the laws of it.
+-- The mark bits: counted, tested, set, cleared and read as words, and the laws of these.
 pub mod Bits
 pub mod ByteLaws
+pub mod Stretches
+pub mod MarkedLaws
+pub mod MarkedOnce
+pub mod Lowest
+pub mod Words

@@ -7,12 +7,12 @@ use Prim.Native.Nat.{ℕ, _+_, _-_, _*_, _/_, _<_}
 use native.Mathlib.Omega.{arith}
 use lib.ListN.{length, take, drop, replicate}
 use lib.Seq.{length-front, length-take-le}
+use Rattle.refusals.specs.declared.Check.the-variants.{Pass}
 use Rattle.math.specs.MembersLaws.{length-upTo}
 use Rattle.plan.specs.Layout.{layout, divisor, messageCount}
-use Rattle.plan.specs.Plans.{layoutOf, verdictOf}
+use Rattle.plan.specs.Plans.{layoutOf, planCheck}
 use Rattle.plan.specs.PlanLaws.{good-bounds, good-valid}
 use Rattle.plan.specs.declared.Plan.{Plan}
-use Rattle.plan.specs.declared.Verdict.the-variants as verdict
 use Rattle.code.specs.Codewords.{at}
 use Rattle.code.specs.Marks.{markBytes, NoSpare}
 use Rattle.code.specs.Messages.{Carries}
@@ -21,7 +21,7 @@ use Rattle.code.specs.Figures as code
 use Rattle.lines.specs.Lines.{line, figuresWord, sealedWord}
 use Rattle.commands.specs.declared.Command.the-variants.{Recover, Seal, Figures}
 use Rattle.state.specs.State.{withBlock}
-use Rattle.state.specs.MarkedLaws.{no-marks-no-spare}
+use Rattle.bits.specs.MarkedLaws.{no-marks-no-spare}
 use Rattle.act.specs.Meaning.{Means, Recovering}
 use Rattle.act.specs.Acts.{stateOf, Kept, Rest, Acts}
 use Rattle.blocks.specs.Wholes.{Whole, Recovered, whole}
@@ -40,7 +40,7 @@ figured {h} {v} {m} k a b c d f e =
 -- ---- the whole block
 
 -- the number of message places
-pub message-number : (p : Plan) → verdictOf p ≡ verdict.Good → length (messages (layoutOf p)) ≡ messageCount (layoutOf p)
+pub message-number : (p : Plan) → planCheck p ≡ Pass → length (messages (layoutOf p)) ≡ messageCount (layoutOf p)
 unfolding messageCount
 message-number p g = length-messages (layoutOf p) (good-valid p g) some ∙ ap (λ x. x * layoutOf p .t - (2 * layoutOf p .t - divisor (layoutOf p))) count
   where
@@ -48,7 +48,7 @@ message-number p g = length-messages (layoutOf p) (good-valid p g) some ∙ ap (
     count = unfold layoutOf layout in length-upTo (p .n)
 
     some : 0 < length (layoutOf p .sections)
-    some = unfold layoutOf layout in rw (length-upTo (p .n)) (omega (arith, good-bounds p g .size))
+    some = unfold layoutOf layout in rw (length-upTo (p .n)) (omega (arith, good-bounds p g))
 
 -- the state's own parts, lent
 pub lent-whole : {h : Held} {v m : List ℕ} → Kept h v m → h .planned ≡ true →

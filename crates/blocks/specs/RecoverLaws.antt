@@ -1,107 +1,60 @@
 -- What counting, encoding and recovering say on buffers of the plan's lengths: their calls pass.
--- Main results: whole-sized, marked-is, marked-never, carried, counted-within; on-recovered, on-loose, on-crossed, on-refused.
+-- Main results: count-most, marked-is, carried; loose-within, crossed-within; on-recovered, on-loose, on-crossed; by-success, by-loose, by-crossed.
 use mathlib.Core.Path.{_≡_, refl, sym, _∙_, ap, subst}
 use mathlib.Core.Bool.{true}
-use mathlib.Core.List.{List, [], _∷_, _++_, map}
-use Prim.Native.Nat.{ℕ, zero, suc, _+_, _-_, _*_, _≤_, _<_}
+use mathlib.Core.List.{List, [], _∷_, map}
+use Prim.Native.Nat.{ℕ, zero, suc, _+_, _-_, _*_, _≤_, _<_, _/_}
 use native.Mathlib.Omega.{arith}
-use lib.ListN.{length, getD, take, replicate, length-append, length-replicate}
+use lib.ListN.{length, getD, take, replicate, length-append}
 use borrow.Author.Tests.{eq-eqb}
 use Rattle.math.specs.Padded.{padded}
-use Rattle.plan.specs.Layout.{Layout, layout, messageCount}
-use Rattle.plan.specs.Plans.{layoutOf, verdictOf}
+use Rattle.plan.specs.Layout.{layout, messageCount}
+use Rattle.bounds.specs.Bounds.{maxT, maxPlaces}
+use Rattle.plan.specs.Plans.{layoutOf, planCheck, countOf, countValue}
 use Rattle.plan.specs.PlanLaws.{good-bounds, good-valid}
 use Rattle.plan.specs.declared.Plan.{Plan}
-use Rattle.plan.specs.declared.Verdict.{Verdict}
-use Rattle.plan.specs.declared.Verdict.the-variants as verdict
 use Rattle.code.specs.Codewords.{at}
-use Rattle.code.specs.Marks.{markBytes, markCount, NoSpare, erasures}
+use Rattle.code.specs.Marks.{markBytes, NoSpare, erasures}
 use Rattle.code.specs.Messages.{Carries}
 use Rattle.code.specs.Laws.ParityCount.{messages}
-use Rattle.code.specs.Laws.MarksLaws.{markCount-zero}
 use Rattle.code.specs.Laws.Carrying.{carried-some}
-use Rattle.tables.specs.Picture.{Sized}
-use Rattle.code.specs.Figures.{Figures}
-use Rattle.figures.specs.Answers.{value, Answered}
-use Rattle.figures.specs.declared.Four.{Four}
-use Rattle.figures.specs.declared.Answer.{Answer}
-use Rattle.figures.specs.declared.Answer.the-variants.{Are, Not}
-use Rattle.calls.specs.Calls.{checkOf, countLent, countOf, countedOf, lengthsFit, spareClear, noneFrom}
+use Rattle.calls.specs.Calls.{checkOf, countLent, countedOf, lengthsFit}
 use Rattle.calls.specs.CallsLaws.{passes}
-use Rattle.calls.specs.declared.Refusal.{Refusal}
-use Rattle.calls.specs.declared.Check.the-variants.{Pass, Stop}
-use Rattle.calls.specs.declared.Counted.{Counted}
-use Rattle.calls.specs.declared.Counted.the-variants as counted
+use Rattle.refusals.specs.declared.Check.{Check}
+use Rattle.refusals.specs.declared.Check.the-variants.{Pass}
 use Rattle.promises.specs.Promises.{Decides, Recovers, Encodes, messageLent}
-use Rattle.promises.specs.Building.{recover-passes, recovered-not-loose, recovered-not-crossed, loose-not-crossed}
+use Rattle.promises.specs.Building.{clear-spare, recover-passes, recovered-not-loose, recovered-not-crossed, loose-not-crossed}
+use Rattle.promises.specs.Answers.{recoveryNumber, recoveryCount}
+use Rattle.refusals.specs.Refusals.{numberOf}
+use Rattle.refusals.specs.declared.Refusal.the-variants as refusal
 use Rattle.promises.specs.declared.Recovery.{Recovery}
 use Rattle.promises.specs.declared.Recovery.the-variants as recovery
 use Rattle.promises.specs.declared.Encoding.{Encoding}
 use Rattle.promises.specs.declared.Encoding.the-variants as encoding
 use Rattle.lines.specs.Lines.{line, recoveredWord, looseWord, crossedWord}
 use Rattle.state.specs.State.{withBlock}
-use Rattle.state.specs.MarkedLaws.{no-marks-no-spare}
-use Rattle.act.specs.Meaning.{Recovering}
+use Rattle.bits.specs.MarkedLaws.{no-marks-no-spare}
 use Rattle.blocks.specs.Wholes.{Whole, Recovered, whole}
 use Rattle.blocks.specs.BlockLaws.{message-number}
 
-pub plan-sized : (p : Plan) → verdictOf p ≡ verdict.Good → length (p .shifts) ≡ 32 → Sized (p .n) (p .t) (p .shifts)
-plan-sized p e l =
-    let g = good-bounds p e in
-    record {
-      n-min = g .size .n-least;
-      n-max = g .size .n-most;
-      t-min = g .size .t-least;
-      t-max = g .size .t-most;
-      places-max = g .size .places-most;
-      long = omega (arith, g .size);
-      below = g .below;
-    }
-
 -- no message is longer than the block buffer
-pub count-most : (p : Plan) → verdictOf p ≡ verdict.Good → messageCount (layoutOf p) ≤ 32768
+pub count-most : (p : Plan) → planCheck p ≡ Pass → messageCount (layoutOf p) ≤ maxPlaces
 unfolding messageCount layoutOf layout
-count-most p g = omega (arith, good-bounds p g .size)
-
--- the figures that the answer holds
-pub figures-are : (p : Plan) {a : Answer} (f : Four) → Answered p a → verdictOf p ≡ verdict.Good → a ≡ Are f →
-    Figures (layoutOf p) (f .parity) (f .pair) (f .neighbour) (f .distance)
-figures-are p f an g e = subst (λ (x : Answer). Figures (layoutOf p) (value x 0) (value x 1) (value x 2) (value x 3)) e (an .values g)
-
-pub figures-never : (p : Plan) {a : Answer} (v : Verdict) → Answered p a → verdictOf p ≡ verdict.Good → a ≡ Not v → ⊥
-figures-never p v an g e =
-    let q = an .good g in
-    let same : Not v ≡ Are (q .0) = sym e ∙ q .1 in
-    let z : _≡_ {A = ℕ} 0 1 = cc in
-    omega arith
+count-most p g = omega (arith, good-bounds p g)
 
 -- ---- the number of marks
 
-spare-clear : (p : Plan) (m : List ℕ) → NoSpare (layoutOf p) m → spareClear (layoutOf p) m ≡ true
-unfolding spareClear noneFrom NoSpare
-spare-clear p m spare =
-    eq-eqb (markCount m (layoutOf p .n * layoutOf p .t) (8 * length m - layoutOf p .n * layoutOf p .t)) 0
-    (markCount-zero m (layoutOf p .n * layoutOf p .t) (8 * length m - layoutOf p .n * layoutOf p .t) (λ k h l. spare k h (omega arith)))
+pub marked-is : (p : Plan) (m : List ℕ) → planCheck p ≡ Pass → length m ≡ markBytes (layoutOf p) → NoSpare (layoutOf p) m →
+    countValue (countedOf p m) ≡ length (erasures (layoutOf p) m)
+unfolding countedOf
+marked-is p m good long spare =
+    ap (λ (k : Check). countValue (countOf k (length (erasures (layoutOf p) m)))) (sym (passes p (countLent m) m good fits (clear-spare p m (omega (arith, long)) spare))) ∙ first
+  where
+    fits : lengthsFit (p .n) (p .t) (messageCount (layoutOf p)) (countLent m) ≡ true
+    fits = unfold lengthsFit countLent layoutOf layout markBytes in simp (eq-eqb (length m) ((p .n * p .t + 7) / 8) long)
 
-module _ (p : Plan) (m : List ℕ) (good : verdictOf p ≡ verdict.Good) (long : length m ≡ markBytes (layoutOf p)) (spare : NoSpare (layoutOf p) m) where
-  counted-is : countedOf p m ≡ counted.Marks (length (erasures (layoutOf p) m))
-  unfolding countedOf
-  counted-is = ap (λ k. countOf k (length (erasures (layoutOf p) m))) (sym (passes p (countLent m) m good fits (spare-clear p m spare))) ∙ first
-    where
-      fits : lengthsFit (layoutOf p) (countLent m) ≡ true
-      fits = unfold lengthsFit countLent in simp (eq-eqb (length m) (markBytes (layoutOf p)) long)
-
-      first : countOf Pass (length (erasures (layoutOf p) m)) ≡ counted.Marks (length (erasures (layoutOf p) m))
-      first = unfold countOf in refl
-
-  pub marked-is : (r : Counted) (k : ℕ) → r ≡ countedOf p m → r ≡ counted.Marks k → k ≡ length (erasures (layoutOf p) m)
-  marked-is r k e f = let q : counted.Marks k ≡ counted.Marks (length (erasures (layoutOf p) m)) = sym f ∙ e ∙ counted-is in cc
-
-  pub marked-never : (r : Counted) (x : Refusal) → r ≡ countedOf p m → r ≡ counted.Refused x → ⊥
-  marked-never r x e f =
-      let q : counted.Refused x ≡ counted.Marks (length (erasures (layoutOf p) m)) = sym f ∙ e ∙ counted-is in
-      let z : _≡_ {A = ℕ} 0 1 = cc in
-      omega arith
+    first : countValue (countOf Pass (length (erasures (layoutOf p) m))) ≡ length (erasures (layoutOf p) m)
+    first = unfold countOf in refl
 
 -- ---- encoding
 
@@ -111,12 +64,12 @@ map-bytes v h (c ∷ l) zero = h c
 map-bytes v h (c ∷ l) (suc i) = map-bytes v h l i
 
 -- the message at the message places is encoded, never refused
-pub carried : (p : Plan) (v d : List ℕ) → verdictOf p ≡ verdict.Good → length v ≡ p .n * p .t → ((c : ℕ) → getD v c 0 < 256) →
+pub carried : (p : Plan) (v d : List ℕ) → planCheck p ≡ Pass → length v ≡ p .n * p .t → ((c : ℕ) → getD v c 0 < 256) →
     d ≡ map (at v) (messages (layoutOf p)) → length d ≡ messageCount (layoutOf p) → (r : Encoding) (v' : List ℕ) → Encodes p d v r v' →
     Carries (layoutOf p) v' (map (at v) (messages (layoutOf p)))
 carried p v d good long bytes e count r v' enc = go r refl
   where
-    fits : lengthsFit (layoutOf p) (messageLent d v) ≡ true
+    fits : lengthsFit (p .n) (p .t) (messageCount (layoutOf p)) (messageLent d v) ≡ true
     fits = unfold lengthsFit messageLent layoutOf layout in
         simp (eq-eqb (length v) (p .n * p .t) long, eq-eqb (length d) (messageCount (layoutOf p)) count)
 
@@ -124,7 +77,7 @@ carried p v d good long bytes e count r v' enc = go r refl
     none = unfold NoSpare in λ c h l. absurd (omega arith)
 
     pass : checkOf p (messageLent d v) [] ≡ Pass
-    pass = sym (passes p (messageLent d v) [] good fits (spare-clear p [] none))
+    pass = sym (passes p (messageLent d v) [] good fits (clear-spare p [] (omega arith) none))
 
     some : (w : List ℕ) × Carries (layoutOf p) w d
     some = carried-some (layoutOf p) (good-valid p good) d (count ∙ sym (message-number p good))
@@ -147,17 +100,17 @@ module _ (p : Plan) (v m w : List ℕ) (a : Whole p v m) (w-long : length w ≡ 
       witness : length w ≡ 2 * layoutOf p .t
       witness = unfold layoutOf layout in w-long
 
-  within : (z k : ℕ) (l : List ℕ) → z ≡ length l → w' ≡ padded k l → length w' ≡ length w → (z ≤ length w') × (z ≤ 4096)
+  within : (z k : ℕ) (l : List ℕ) → z ≡ length l → w' ≡ padded k l → length w' ≡ length w → (z ≤ length w') × (z ≤ 2 * maxT)
   unfolding padded
   within z k l e f long =
       let g = ap length f ∙ length-append l (replicate (k - length l) 0) in
-      (omega arith, omega (arith, good-bounds p (a .good) .size))
+      (omega arith, omega (arith, good-bounds p (a .good)))
 
-  pub loose-within : (z : ℕ) → r ≡ recovery.Loose z → length w' ≡ length w → (z ≤ length w') × (z ≤ 4096)
-  loose-within z e long = let s = decided .loose-shows z e in within z _ (s .0) (s .2) (s .3) long
+  pub loose-within : (z : ℕ) → r ≡ recovery.Loose z → length w' ≡ length w → (z ≤ length w') × (z ≤ 2 * maxT)
+  loose-within z e long = let s = decided .loose-shows z e in within z _ (s .0) (sym (ap recoveryCount e) ∙ s .2) (s .3) long
 
-  pub crossed-within : (z : ℕ) → r ≡ recovery.Crossed z → length w' ≡ length w → (z ≤ length w') × (z ≤ 4096)
-  crossed-within z e long = let s = decided .crossed-shows z e in within z _ (s .0) (s .2) (s .3) long
+  pub crossed-within : (z : ℕ) → r ≡ recovery.Crossed z → length w' ≡ length w → (z ≤ length w') × (z ≤ 2 * maxT)
+  crossed-within z e long = let s = decided .crossed-shows z e in within z _ (s .0) (sym (ap recoveryCount e) ∙ s .2) (s .3) long
 
   pub on-recovered : {text m' : List ℕ} {count : ℕ} → r ≡ recovery.Recovered → count ≡ length (erasures (layoutOf p) m) → m' ≡ replicate (length m) 0 →
       text ≡ line recoveredWord (count ∷ []) → Recovered p v m text v' m'
@@ -205,5 +158,20 @@ module _ (p : Plan) (v m w : List ℕ) (a : Whole p v m) (w-long : length w ≡ 
         spare = a .spare;
       }
 
-  pub on-refused : (x : Refusal) → r ≡ recovery.Refused x → ⊥
-  on-refused x e = decided .not-refused x e
+  -- the answer by its number and count
+  pub by-success : {k : ℕ} → k ≡ recoveryNumber r → k ≡ 0 → r ≡ recovery.Recovered
+  by-success e z = decided .recovered-when .1 (decided .number .success-when .0 (sym e ∙ z))
+
+  pub by-loose : {k j z : ℕ} → k ≡ recoveryNumber r → j ≡ numberOf refusal.Loose → z ≡ recoveryCount r → k ≡ j → r ≡ recovery.Loose z
+  by-loose e f g h =
+      let q = decided .loose-when .1 (decided .number .loose-when .0 (sym e ∙ h ∙ f)) in
+      q .1 ∙ ap recovery.Loose (sym (g ∙ ap recoveryCount (q .1)))
+
+  pub by-crossed : {k j z : ℕ} → k ≡ recoveryNumber r → j ≡ numberOf refusal.Loose → z ≡ recoveryCount r → (k ≡ 0 → ⊥) → (k ≡ j → ⊥) → r ≡ recovery.Crossed z
+  by-crossed {k} {j} {z} e f g a b = go r refl
+    where
+      go : (x : Recovery) → r ≡ x → r ≡ recovery.Crossed z
+      go recovery.Recovered q = absurd (a (e ∙ ap recoveryNumber q))
+      go (recovery.Loose y) q = absurd (b (e ∙ ap recoveryNumber q ∙ sym f))
+      go (recovery.Crossed y) q = q ∙ ap recovery.Crossed (sym (g ∙ ap recoveryCount q))
+      go (recovery.Refused x) q = absurd (decided .not-refused x q)

@@ -4,16 +4,16 @@ use mathlib.Core.Bool.{true}
 use mathlib.Core.List.{List}
 use Prim.Native.Nat.{ℕ, _*_}
 use lib.ListN.{length}
-use Rattle.plan.specs.Plans.{layoutOf, verdictOf}
+use Rattle.refusals.specs.declared.Check.the-variants.{Pass}
+use Rattle.plan.specs.Plans.{layoutOf, planCheck}
 use Rattle.plan.specs.declared.Plan.{Plan}
-use Rattle.plan.specs.declared.Verdict.the-variants as verdict
 use Rattle.code.specs.Marks.{markBytes, NoSpare}
 use Rattle.state.specs.State.{State}
 use Rattle.act.specs.Meaning.{Recovering}
 
 -- a good plan with a block and marks of its own lengths
 pub record Whole (p : Plan) (v m : List ℕ) : Type 0 where
-  pub good : verdictOf p ≡ verdict.Good
+  pub good : planCheck p ≡ Pass
   pub block-long : length v ≡ p .n * p .t
   pub marks-long : length m ≡ markBytes (layoutOf p)
   pub spare : NoSpare (layoutOf p) m

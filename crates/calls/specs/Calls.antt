@@ -1,25 +1,23 @@
--- What refuses a call (01, "What is turned away"): one definition for every entry, with the number of each refusal; and the number of marked places.
-use mathlib.Core.Bool.{Bool, true, cond, _&&_}
+-- What refuses a call (01, "What is turned away"): one definition for every entry; and the number of marked places.
+-- Main definitions: checkOf, countedOf.
+use mathlib.Core.Bool.{Bool, true, _&&_}
 use mathlib.Core.List.{List}
-use Prim.Native.Nat.{ℕ, _*_}
+use Prim.Native.Nat.{ℕ, _+_, _*_, _/_}
 use lib.Dec.{eqb}
-use lib.ListN.{length}
-use Rattle.plan.specs.Layout.{Layout, messageCount}
-use Rattle.plan.specs.Plans.{layoutOf, verdictOf}
+use lib.ListN.{length, take}
+use Rattle.refusals.specs.Refusals.{unless, _then_}
+use Rattle.refusals.specs.declared.Refusal.the-variants.{Length, Spare}
+use Rattle.refusals.specs.declared.Check.{Check}
+use Rattle.plan.specs.Layout.{messageCount}
+use Rattle.plan.specs.Plans.{layoutOf, planCheck, countOf}
 use Rattle.plan.specs.declared.Plan.{Plan}
-use Rattle.plan.specs.declared.Verdict.the-variants as verdict
-use Rattle.code.specs.Marks.{markBytes, erasures}
+use Rattle.plan.specs.declared.Count.{Count}
+use Rattle.code.specs.Marks.{erasures}
 -- passed on: it is part of what refuses a call
 unfoldable pub use Rattle.bits.specs.Bits.{noneFrom}
 use Rattle.calls.specs.declared.Part.{Part}
 use Rattle.calls.specs.declared.Part.the-variants.{Unlent, Of}
 use Rattle.calls.specs.declared.Lent.{Lent}
-use Rattle.calls.specs.declared.Refusal.{Refusal}
-use Rattle.calls.specs.declared.Refusal.the-variants.{Size, Shift, Length, Spare}
-use Rattle.calls.specs.declared.Check.{Check}
-use Rattle.calls.specs.declared.Check.the-variants.{Pass, Stop}
-use Rattle.calls.specs.declared.Counted.{Counted}
-use Rattle.calls.specs.declared.Counted.the-variants as counted
 
 -- a buffer that is lent has the plan's length; one that a call does not take is no matter
 abbrev pub partFits : Part → ℕ → Bool
@@ -27,44 +25,30 @@ partFits Unlent k = true
 partFits (Of m) k = eqb m k
 
 -- the plan's lengths: block n × t, marks a bit per place in whole bytes, witness list 2t, message the number of message places
-unfoldable pub lengthsFit : Layout → Lent → Bool
-lengthsFit L lent =
-    partFits (lent .block) (L .n * L .t) && partFits (lent .marks) (markBytes L) && partFits (lent .witness) (2 * L .t)
-    && partFits (lent .message) (messageCount L)
+unfoldable pub lengthsFit : ℕ → ℕ → ℕ → Lent → Bool
+lengthsFit n t count lent =
+    partFits (lent .block) (n * t) && partFits (lent .marks) ((n * t + 7) / 8) && partFits (lent .witness) (2 * t) && partFits (lent .message) count
 
--- no spare bit of the marks is 1: none from place n × t on
-unfoldable pub spareClear : Layout → List ℕ → Bool
-spareClear L m = noneFrom m (L .n * L .t)
+-- no spare bit of the marks is 1: in the bytes that so many places take, none from the first place past them on
+unfoldable pub spareClear : ℕ → List ℕ → Bool
+spareClear places m = noneFrom (take ((places + 7) / 8) m) places
+
+-- 3, then 4; `fits`: every lent buffer has its length
+unfoldable pub lentCheck : ℕ → Bool → List ℕ → Check
+lentCheck places fits m = unless fits Length then unless (spareClear places m) Spare
 
 -- what refuses a call: 1 and 2 by the plan, then 3, then 4
-unfoldable pub checkOf : Plan → Lent → List ℕ → Check
-checkOf p lent m =
-    elim (verdictOf p) [
-      | verdict.Good ↦ cond (lengthsFit (layoutOf p) lent) (cond (spareClear (layoutOf p) m) Pass (Stop Spare)) (Stop Length)
-      | verdict.Size ↦ Stop Size
-      | verdict.Shift ↦ Stop Shift
-      | verdict.Family ↦ Stop Size
-    ]
+unfoldable pub callCheck : Plan → Bool → List ℕ → Check
+callCheck p fits m = planCheck p then lentCheck (p .n * p .t) fits m
 
--- the number of each answer
-abbrev pub refusalNumber : Refusal → ℕ
-refusalNumber Size = 1
-refusalNumber Shift = 2
-refusalNumber Length = 3
-refusalNumber Spare = 4
+-- the same of a call whose buffers go by the plan
+unfoldable pub checkOf : Plan → Lent → List ℕ → Check
+checkOf p lent m = callCheck p (lengthsFit (p .n) (p .t) (messageCount (layoutOf p)) lent) m
 
 -- what the count of marks is lent
 unfoldable pub countLent : List ℕ → Lent
 countLent m = record { block = Unlent; marks = Of (length m); witness = Unlent; message = Unlent }
 
 -- "The sheet gives the number of marked places, counted from the bits": refusals 1 to 4, else the number of marked places
-unfoldable pub countOf : Check → ℕ → Counted
-countOf Pass z = counted.Marks z
-countOf (Stop x) z = counted.Refused x
-
-unfoldable pub countedOf : Plan → List ℕ → Counted
+unfoldable pub countedOf : Plan → List ℕ → Count
 countedOf p m = countOf (checkOf p (countLent m) m) (length (erasures (layoutOf p) m))
-
-abbrev pub countedNumber : Counted → ℕ
-countedNumber (counted.Marks z) = 0
-countedNumber (counted.Refused x) = refusalNumber x

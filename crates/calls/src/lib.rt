@@ -1,27 +1,20 @@
 // What refuses a call: one test for every entry. And the number of marked places, counted from the bits (the crate bits).
-// Entries: Refusal::number, check_call, erasure_count, Counted::number.
+// Entry: erasure_count. The rest is public for the crates above only: it takes the buffers' lengths, or that they fit, as its caller says.
 ghost use mathlib.Core.Path.{_≡_};
-ghost use Rattle.plan.specs.Layout.{messageCount};
-ghost use Rattle.plan.specs.Plans.{layoutOf, verdictOf};
-ghost use Rattle.plan.specs.declared.Verdict.the-variants as verdict;
-ghost use Rattle.calls.specs.Calls.{partFits, lengthsFit, checkOf, refusalNumber, countedOf, countedNumber};
+ghost use Prim.Native.Nat.{_*_, _≤_};
+ghost use Rattle.bounds.specs.Bounds.{maxPlaces, maxT};
+ghost use Rattle.refusals.specs.Refusals.{checkNumber};
+ghost use Rattle.plan.specs.GoodPlan.{GoodPlan};
+ghost use Rattle.plan.specs.Layout.{layout, messageCount};
+ghost use Rattle.plan.specs.Plans.{countNumber};
+ghost use Rattle.calls.specs.Calls.{partFits, lengthsFit, spareClear, lentCheck, checkOf, countLent, countedOf};
 use bits::count_ones;
 use bits::none_from;
 use plan::Count;
 use plan::Plan;
-use plan::Verdict;
-
-pub enum Refusal {
-    Size,
-    Shift,
-    Length,
-    Spare,
-}
-
-pub enum Check {
-    Pass,
-    Stop(Refusal),
-}
+use plan::message_places;
+use refusals::Check;
+use refusals::Refusal;
 
 // A buffer's length, or none where the call takes no such buffer.
 pub enum Part {
@@ -37,70 +30,43 @@ pub struct Lent {
     pub message: Part,
 }
 
-pub enum Counted {
-    Marks(usize),
-    Refused(Refusal),
-}
-
-impl Refusal {
-    pub fn number(self) -> u8
-        ensures { λ r. ⌜ r ≡ refusalNumber self ⌝ }
-    {
-        match self {
-            Refusal::Size => 1,
-            Refusal::Shift => 2,
-            Refusal::Length => 3,
-            Refusal::Spare => 4,
-        }
-    }
-}
-
-impl Counted {
-    pub fn number(self) -> u8
-        ensures { λ r. ⌜ r ≡ countedNumber self ⌝ }
-    {
-        match self {
-            Counted::Marks(_) => 0,
-            Counted::Refused(x) => x.number(),
-        }
-    }
-}
-
 // The first refusal in the order 1 to 4, or none. The lengths are the caller's word; the marks are looked at as they are.
 pub fn check_call(plan: Plan, lent: Lent, marks: &[u8]) -> Check
     ensures { λ r. ⌜ r ≡ checkOf plan lent (now (marks .entry)) ⌝ }
 {
-    match plan.verdict() {
-        Verdict::Good => check_buffers(plan, lent, marks),
-        Verdict::Size => Check::Stop(Refusal::Size),
-        Verdict::Shift => Check::Stop(Refusal::Shift),
-        Verdict::Family => Check::Stop(Refusal::Size),
+    let n = plan.n;
+    let t = plan.t;
+    let s = plan.shifts;
+    let message = lent.message;
+    match plan.check() {
+        Check::Stop(x) => Check::Stop(x),
+        Check::Pass => {
+            let count = message_length(n, t, &s[..], message);
+            check_lent(lengths_fit(n, t, count, lent), n * t, marks)
+        }
     }
 }
 
-// 3, then 4.
-fn check_buffers(plan: Plan, lent: Lent, marks: &[u8]) -> Check
-    requires { ⌜ verdictOf plan ≡ verdict.Good ⌝ }
-    ensures { λ r. ⌜ r ≡ checkOf plan lent (now (marks .entry)) ⌝ }
+// 3, then 4. `fits`: every lent buffer has its length.
+pub fn check_lent(fits: bool, places: usize, marks: &[u8]) -> Check
+    requires { ⌜ places ≤ maxPlaces ⌝ }
+    ensures { λ r. ⌜ r ≡ lentCheck places fits (now (marks .entry)) ⌝ }
 {
-    if !lengths_fit(plan, lent) {
+    if !fits {
         return Check::Stop(Refusal::Length);
     }
-    let n = plan.n;
-    let t = plan.t;
-    if !none_from(marks, n * t) {
+    if !spare_clear(marks, places) {
         return Check::Stop(Refusal::Spare);
     }
     Check::Pass
 }
 
-// The message places are counted only where a message is lent.
-fn lengths_fit(plan: Plan, lent: Lent) -> bool
-    requires { ⌜ verdictOf plan ≡ verdict.Good ⌝ }
-    ensures { λ r. ⌜ r ≡ lengthsFit (layoutOf plan) lent ⌝ }
+// `count` is the number of message places.
+pub fn lengths_fit(n: usize, t: usize, count: usize, lent: Lent) -> bool
+    requires { ⌜ (n * t ≤ maxPlaces) × (t ≤ maxT) ⌝ }
+    ensures { λ r. ⌜ r ≡ lengthsFit n t count lent ⌝ }
 {
-    let places = plan.n * plan.t;
-    let rows = 2 * plan.t;
+    let places = n * t;
     let block = lent.block;
     let marks = lent.marks;
     let witness = lent.witness;
@@ -111,10 +77,10 @@ fn lengths_fit(plan: Plan, lent: Lent) -> bool
     if !part_fits(marks, (places + 7) / 8) {
         return false;
     }
-    if !part_fits(witness, rows) {
+    if !part_fits(witness, 2 * t) {
         return false;
     }
-    message_fits(plan, message)
+    part_fits(message, count)
 }
 
 fn part_fits(part: Part, k: usize) -> bool
@@ -126,22 +92,33 @@ fn part_fits(part: Part, k: usize) -> bool
     }
 }
 
-fn message_fits(plan: Plan, part: Part) -> bool
-    requires { ⌜ verdictOf plan ≡ verdict.Good ⌝ }
-    ensures { λ r. ⌜ r ≡ partFits part (messageCount (layoutOf plan)) ⌝ }
+// The number of message places, which is worked out only where a message is lent.
+fn message_length(n: usize, t: usize, shifts: &[u16], part: Part) -> usize
+    requires { ⌜ GoodPlan n t (now shifts) ⌝ }
+    ensures { λ r. ⌜ partFits part r ≡ partFits part (messageCount (layout n t (now (shifts .entry)))) ⌝ }
 {
     match part {
-        Part::Unlent => true,
-        Part::Of(m) => match plan.message_count() {
-            Count::Is(k) => m == k,
-            Count::Not(_) => false,
-        },
+        Part::Unlent => 0,
+        Part::Of(_) => message_places(n, t, shifts),
     }
 }
 
+// The spare bits are those from place `places` on, in the bytes that so many places take.
+fn spare_clear(marks: &[u8], places: usize) -> bool
+    requires { ⌜ places ≤ maxPlaces ⌝ }
+    ensures { λ r. ⌜ r ≡ spareClear places (now (marks .entry)) ⌝ }
+{
+    let bytes = (places + 7) / 8;
+    if marks.len() < bytes {
+        return true;
+    }
+    none_from(&marks[..bytes], places)
+}
+
 // The number of marked places, or the refusal.
-pub fn erasure_count(plan: Plan, marks: &[u8]) -> Counted
+pub fn erasure_count(plan: Plan, marks: &[u8]) -> Count
     ensures { λ r. ⌜ r ≡ countedOf plan (now (marks .entry)) ⌝ }
+    ensures { λ r. ⌜ countNumber r ≡ checkNumber (checkOf plan (countLent (now (marks .entry))) (now (marks .entry))) ⌝ }
 {
     let lent = Lent {
         block: Part::Unlent,
@@ -150,7 +127,7 @@ pub fn erasure_count(plan: Plan, marks: &[u8]) -> Counted
         message: Part::Unlent,
     };
     match check_call(plan, lent, marks) {
-        Check::Pass => Counted::Marks(count_ones(marks)),
-        Check::Stop(x) => Counted::Refused(x),
+        Check::Pass => Count::Is(count_ones(marks)),
+        Check::Stop(x) => Count::Not(x),
     }
 }

@@ -1,9 +1,10 @@
 // The C entry points: each hands its arguments to an entry of the library and gives the answer back as a number of document 01's table.
-// Declared for C in include/fumizhaki.h. What each promises is in the crate numbers, specs/Entries.antt.
+// Entries: every function. Declared for C in include/fumizhaki.h. What each promises is in the crate numbers, specs/Entries.antt.
 ghost use mathlib.Core.Path.{_≡_};
-ghost use Rattle.plan.specs.Plans.{numberOf, verdictOf, planOf, straightOf, powersOf, rulerOf, messageCountOf};
-ghost use Rattle.calls.specs.Calls.{countedOf, countedNumber};
-ghost use Rattle.numbers.specs.Entries.{numbered, messageNumber, messageValue, countedValue, FiguresOut, RecoverOut, EncodeOut, MessageOut};
+ghost use Rattle.refusals.specs.Refusals.{checkNumber};
+ghost use Rattle.plan.specs.Plans.{planCheck, planOf, straightOf, powersOf, rulerOf, messageCountOf, countNumber, countValue};
+ghost use Rattle.calls.specs.Calls.{countedOf};
+ghost use Rattle.numbers.specs.Entries.{numbered, FiguresOut, RecoverOut, EncodeOut, MessageOut};
 use numbers::Made;
 use numbers::number_erasure_count;
 use numbers::number_figures;
@@ -41,15 +42,15 @@ pub extern "C" fn fumizhaki_ruler(n: usize) -> Made
 
 #[no_mangle]
 pub extern "C" fn fumizhaki_verdict(plan: Plan) -> u8
-    ensures { λ r. ⌜ r ≡ numberOf (verdictOf plan) ⌝ }
+    ensures { λ r. ⌜ r ≡ checkNumber (planCheck plan) ⌝ }
 {
-    plan.verdict().number()
+    plan.check().number()
 }
 
 #[no_mangle]
 pub extern "C" fn fumizhaki_message_count(plan: Plan, count: &mut usize) -> u8
-    ensures { λ r. ⌜ r ≡ messageNumber (messageCountOf plan) ⌝ }
-    ensures { λ _. ⌜ now (count .exit) ≡ messageValue (messageCountOf plan) ⌝ }
+    ensures { λ r. ⌜ r ≡ countNumber (messageCountOf plan) ⌝ }
+    ensures { λ _. ⌜ now (count .exit) ≡ countValue (messageCountOf plan) ⌝ }
 {
     number_message_count(plan, count)
 }
@@ -69,8 +70,8 @@ pub extern "C" fn fumizhaki_figures(
 
 #[no_mangle]
 pub extern "C" fn fumizhaki_erasure_count(plan: Plan, marks: &[u8], count: &mut usize) -> u8
-    ensures { λ r. ⌜ r ≡ countedNumber (countedOf plan (now (marks .entry))) ⌝ }
-    ensures { λ _. ⌜ now (count .exit) ≡ countedValue (countedOf plan (now (marks .entry))) ⌝ }
+    ensures { λ r. ⌜ r ≡ countNumber (countedOf plan (now (marks .entry))) ⌝ }
+    ensures { λ _. ⌜ now (count .exit) ≡ countValue (countedOf plan (now (marks .entry))) ⌝ }
 {
     number_erasure_count(plan, marks, count)
 }

@@ -18,7 +18,8 @@ pub record Least (P : ℕ → Type 0) (x : ℕ) : Type 0 where
   pub has : P x
   pub least : (y : ℕ) → P y → x ≤ y
 
--- "take 2t divided by the greatest common divisor of t and the difference of their two shifts"
+-- "take 2t divided by the greatest common divisor of t and the difference of their two shifts"; that `gcd` divides both and every common
+-- divisor divides it is `gcd-is`, and "the divisor of 0 and t is t" `gcd-zero-left`, beside its definition in math/specs/Gcd.antt
 unfoldable pub pairNumber : Layout → ℕ → ℕ → ℕ
 pairNumber L i j = 2 * L .t / gcd (gap (L .shift i) (L .shift j)) (L .t)
 

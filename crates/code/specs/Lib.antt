@@ -8,4 +8,5 @@ pub mod Components
 pub mod Messages
 pub mod Figures
 pub mod Theorems
+pub mod FiguresOnce
 pub mod Laws

@@ -1,18 +1,32 @@
--- The places of a layout, the rows that each meets, and matrix (1) of 002, which says the same.
+-- The places of a layout (in a plan all of 0 .. n × t - 1: `layout-places`), the rows that each meets, and matrix (1) of 002, which says the same.
 -- 01, "Plan, place, row": "Place c = j × t + k is symbol k of section j. It meets two rows. There are 2t rows."
-use mathlib.Core.Path.{_≡_}
+use mathlib.Core.Path.{_≡_, refl}
 use mathlib.Core.Logic.{_⊎_}
 use mathlib.Core.Bool.{Bool, cond, _||_}
 use mathlib.Core.List.{List}
 use Prim.Native.Nat.{ℕ, _+_, _-_, _*_, _/_, _%_, _<_}
+use native.Mathlib.Nat.{div-lt-iff-lt-mul}
 use lib.Dec.{eqb, ltb}
 use Rattle.math.specs.Members.{isIn, upTo, keep}
+use Rattle.math.specs.MembersLaws.{∈-isIn, ∈-upTo, upTo-∈, keep-all}
 use Rattle.math.specs.Sums.{only}
-use Rattle.plan.specs.Layout.{Layout, top, bottom}
+use Rattle.plan.specs.Layout.{Layout, layout, top, bottom}
 
--- every place whose section takes part, rising: in a plan all of 0 .. n × t - 1
+-- every place whose section takes part, rising
 unfoldable pub places : Layout → List ℕ
 places L = keep (λ c. isIn (c / L .t) (L .sections)) (upTo (L .n * L .t))
+
+-- where every section takes part, these are 0 .. n × t - 1
+pub places-all : (L : Layout) → L .sections ≡ upTo (L .n) → 0 < L .t → places L ≡ upTo (L .n * L .t)
+unfolding places
+places-all L all positive =
+    keep-all (λ c. isIn (c / L .t) (L .sections)) (upTo (L .n * L .t))
+    (λ c m. rw all (∈-isIn (∈-upTo (div-lt-iff-lt-mul positive .1 (upTo-∈ (L .n * L .t) m)))))
+
+-- as in the layout of a plan
+pub layout-places : (n t : ℕ) (shifts : List ℕ) → 0 < t → places (layout n t shifts) ≡ upTo (n * t)
+unfolding layout
+layout-places n t shifts positive = places-all (layout n t shifts) refl positive
 
 -- "There are 2t rows."
 unfoldable pub rows : Layout → List ℕ

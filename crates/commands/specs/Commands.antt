@@ -4,6 +4,9 @@ use mathlib.Core.List.{List, [], _∷_}
 use Prim.Native.Nat.{ℕ, _+_, _*_}
 use lib.Dec.{eqb, ltb}
 use lib.ListN.{length, getD}
+use Rattle.refusals.specs.declared.Refusal.the-variants as refusal
+use Rattle.refusals.specs.declared.Check.{Check}
+use Rattle.refusals.specs.declared.Check.the-variants.{Pass, Stop}
 use Rattle.commands.specs.declared.Command.{Command}
 use Rattle.commands.specs.declared.Command.the-variants.{NewPlan, SetShift, SetSymbol, MarkOne, MarkRun, Recover, Seal, Show, Figures, Straight, Powers, Ruler}
 use Rattle.commands.specs.declared.Parsed.{Parsed}
@@ -38,16 +41,15 @@ commandOf s =
     (cond (eqb (one s 0) 0x0B) (Powers (one s 1) (two s 2) (two s 4))
     (Ruler (one s 1))))))))))))
 
--- 7, command: "unknown first byte in a job"
-abbrev pub unknownNumber : ℕ
-unknownNumber = 7
-
--- 8, short: "the job ends inside a command"
-abbrev pub shortNumber : ℕ
-shortNumber = 8
-
 -- what stands at the front of the bytes: an unknown first byte goes before a cut-off command
 unfoldable pub parsed : List ℕ → Parsed
 parsed [] = Nothing
 parsed (b ∷ rest) =
     cond (eqb (sizeOf b) 0) Unknown (cond (ltb (length (b ∷ rest)) (sizeOf b)) Short (Whole (commandOf (b ∷ rest))))
+
+-- 7, command: "unknown first byte in a job"; 8, short: "the job ends inside a command"
+abbrev pub parsedCheck : Parsed → Check
+parsedCheck (Whole c) = Pass
+parsedCheck Unknown = Stop refusal.Command
+parsedCheck Short = Stop refusal.Short
+parsedCheck Nothing = Pass

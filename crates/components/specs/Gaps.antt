@@ -10,8 +10,8 @@ use lib.Pow.{field, mod-mod-pow, pow-pos}
 use Rattle.math.specs.SumsLaws.{only-true}
 use Rattle.code.specs.Codewords.{bitOf}
 use Rattle.code.specs.Marks.{mark}
-use Rattle.tables.specs.Lowest.{bit-raised, bit-beyond}
-use Rattle.tables.specs.Words.{Word}
+use Rattle.bits.specs.Lowest.{bit-raised, bit-beyond}
+use Rattle.bits.specs.Words.{Word}
 
 -- the m places next below c are not marked
 pub record Gap (marks : List ℕ) (c m : ℕ) : Type 0 where

@@ -1,16 +1,15 @@
 -- Lists as the code of crossed writes them: rows picked out, a list filled up with 0, sums by parent.
--- Main results: adds-more, gathers-more.
+-- Main results: adds-more.
 use mathlib.Core.Path.{_≡_, refl, sym, _∙_, ap, subst}
 use mathlib.Core.Logic.{_≢_, by-cases}
 use mathlib.Core.List.{List, [], _∷_, _++_, append-nil}
-use Prim.Native.Nat.{ℕ, suc, _+_, _-_, _≤_, _<_}
-use native.Mathlib.Nat.{sub-zero}
+use Prim.Native.Nat.{ℕ, _+_, _-_, _≤_, _<_}
 use native.Mathlib.Numerals.{add-one}
 use native.Mathlib.Decide.{ℕ-discrete}
 use native.Mathlib.Omega.{arith}
 use lib.Dec.{eqb}
 use lib.ListN.{length, getD, set, replicate, length-set, length-append, length-replicate, getD-replicate}
-use lib.Seq.{getD-set-same, getD-set-other, set-at, append-snoc}
+use lib.Seq.{getD-set-same, getD-set-other}
 use borrow.Author.Tests.{eq-eqb, ne-eqb}
 use Rattle.math.specs.Members.{keep, from, upTo}
 use Rattle.math.specs.Padded.{padded, padded-none, padded-more, length-padded}

@@ -126,22 +126,20 @@ reached-more {p} {q} {x} {r} m k =
 pub record Seeks (p : List ℕ) (x : ℕ) (q : List ℕ) (r up : ℕ) : Type 0 where
   pub reached : Reached p x q r
   pub start : x < length p
-  pub start-small : x < 65536
   pub long : length q ≡ length p
   pub near : r ≤ x
   pub parent : up ≡ getD q r 0
   pub low : up ≤ r
   pub next-low : getD q up 0 ≤ up
 
-seeks-at : {p q : List ℕ} {x r : ℕ} → Reached p x q r → x < length p → x < 65536 → Seeks p x q r (getD q r 0)
-seeks-at {p} {q} {x} {r} m h k =
+seeks-at : {p q : List ℕ} {x r : ℕ} → Reached p x q r → x < length p → Seeks p x q r (getD q r 0)
+seeks-at {p} {q} {x} {r} m h =
     let l = m .same .long in
     let fall = m .same .falls in
     let a : getD q r 0 ≤ r = fall r (omega (arith, m .small)) in
     record {
       reached = m;
       start = h;
-      start-small = k;
       long = l;
       near = m .small;
       parent = refl;
@@ -149,14 +147,15 @@ seeks-at {p} {q} {x} {r} m h k =
       next-low = fall (getD q r 0) (omega (arith, m .small));
     }
 
-pub seeks-own : {p : List ℕ} {x : ℕ} → Falls p → x < length p → x < 65536 → Seeks p x p x (getD p x 0)
-seeks-own {p} {x} fall h k = seeks-at (reached-own fall x) h k
+pub seeks-own : {p : List ℕ} {x up : ℕ} → Falls p → x < length p → up ≡ getD p x 0 → Seeks p x p x up
+seeks-own {p} {x} fall h e = rw e (seeks-at (reached-own fall x) h)
 
-pub seeks-more : {p q : List ℕ} {x r up : ℕ} → Seeks p x q r up
-    → Seeks p x (set q r (getD q up 0)) (getD q up 0) (getD (set q r (getD q up 0)) (getD q up 0) 0)
-seeks-more {p} {q} {x} {r} {up} m =
-    subst (λ u. Seeks p x (set q r (getD q u 0)) (getD q u 0) (getD (set q r (getD q u 0)) (getD q u 0) 0)) (sym (m .parent))
-    (seeks-at (reached-more (m .reached) (m .start)) (m .start) (m .start-small))
+-- row r is hung from its parent's parent, and the search goes on there
+pub seeks-more : {p q q' : List ℕ} {x r up over up' : ℕ} → Seeks p x q r up → over ≡ getD q up 0 → q' ≡ set q r over → up' ≡ getD q' over 0
+    → Seeks p x q' over up'
+seeks-more {p} {q} {x = x} {r} {up} m eo eq eu =
+    rw (eu, eq, eo) (subst (λ u. Seeks p x (set q r (getD q u 0)) (getD q u 0) (getD (set q r (getD q u 0)) (getD q u 0) 0)) (sym (m .parent))
+    (seeks-at (reached-more (m .reached) (m .start)) (m .start)))
 
 pub seeks-found : {p q : List ℕ} {x r up : ℕ} → Seeks p x q r up → r ≤ up → Found p x q r
 seeks-found m h = record { reached = m .reached; root = omega (arith, m .parent, m .low) }

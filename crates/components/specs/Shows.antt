@@ -9,6 +9,7 @@ use native.Mathlib.Omega.{arith}
 use lib.Dec.{eqb}
 use lib.ListN.{length, getD}
 use borrow.Author.Tests.{eqb-true}
+use Rattle.bounds.specs.Bounds.{maxT}
 use Rattle.math.specs.Members.{upTo}
 use Rattle.math.specs.MembersLaws.{by-test, keep-ext, upTo-∈}
 use Rattle.math.specs.Sums.{xorOver, only}
@@ -48,7 +49,7 @@ pub record Shows (t : ℕ) (parent sum lent witness : List ℕ) (answer : Rows) 
 -- what crossed is lent
 pub record Lent (t : ℕ) (parent sum total witness : List ℕ) : Type 0 where
   pub t-min : 1 ≤ t
-  pub t-max : t ≤ 2048
+  pub t-max : t ≤ maxT
   pub parent-long : length parent ≡ 2 * t
   pub sum-long : length sum ≡ 2 * t
   pub total-long : length total ≡ 2 * t

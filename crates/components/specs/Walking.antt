@@ -1,28 +1,29 @@
 -- The walk over the marks as the code makes it: the place with its section and offset, and the bits of the marks.
 -- Main results: joinable, walking-gap, walking-bit, walking-join (the steps), walking-start, walking-passed.
-use mathlib.Core.Path.{_≡_, refl, sym, _∙_, ap, subst}
+use mathlib.Core.Path.{_≡_, sym, _∙_, ap, subst}
 use mathlib.Core.Logic.{_≢_}
 use mathlib.Core.Bool.{Bool}
-use mathlib.Core.List.{List, []}
-use Prim.Native.Nat.{ℕ, _+_, _-_, _*_, _/_, _%_, _≤_, _<_}
+use mathlib.Core.List.{List}
+use Prim.Native.Nat.{ℕ, _+_, _-_, _*_, _/_, _≤_, _<_}
 use native.Mathlib.Nat.{mod-lt, div-lt-iff-lt-mul}
 use native.Mathlib.Omega.{arith}
 use lib.ListN.{length, getD}
-use Rattle.math.specs.Members.{_∈_, upTo}
+use Rattle.bounds.specs.Bounds.{maxN, maxT}
+use Rattle.math.specs.Members.{_∈_}
 use Rattle.math.specs.MembersLaws.{∈-upTo}
 use Rattle.plan.specs.Layout.{Layout, layout, top, bottom, bottomRow}
 use Rattle.code.specs.Marks.{mark, erasures}
 use Rattle.code.specs.Laws.Basics.{places-∈, ∈-places}
 use Rattle.code.specs.Laws.MarksLaws.{in-erasures, rising-erasures, mark-bit}
-use Rattle.tables.specs.Picture.{Sized}
-use Rattle.tables.specs.Words.{Clear}
+use Rattle.bits.specs.Words.{Clear}
 use Rattle.tables.specs.Spots.{Stands, stands-inside, stands-top, stands-bottom}
 use Rattle.components.specs.Parents.{Falls, Unites, Settled, Own}
 use Rattle.components.specs.Gaps.{Gap}
-use Rattle.components.specs.Walks.{Joins, Walks, Labelled, closing, walks-none, walks-skip, walks-join, walks-labelled, joins-none}
+use Rattle.components.specs.Walks.{Walks, Labelled, closing, walks-none, walks-skip, walks-join, walks-labelled, joins-none}
 use Rattle.plan.specs.declared.Place.{Place}
+use Rattle.plan.specs.GoodPlan.{GoodPlan}
 use Rattle.components.specs.declared.walk.Closing.{Closing}
-use Rattle.components.specs.declared.walk.Closing.the-variants.{At, None}
+use Rattle.components.specs.declared.walk.Closing.the-variants.{None}
 
 -- a place whose rows can be joined in the table p
 pub record Joinable (n t : ℕ) (p : List ℕ) (c j k : ℕ) : Type 0 where
@@ -37,7 +38,7 @@ UnitesAt L c p q b = Unites p (top L c) (bottom L c) q b
 
 -- the walk stands at place c, symbol k of section j
 pub record Walking (n t : ℕ) (shifts marks p : List ℕ) (c j k : ℕ) (answer : Closing) : Type 0 where
-  pub sized : Sized n t shifts
+  pub sized : GoodPlan n t shifts
   pub bytes : length marks ≡ (n * t + 7) / 8
   pub stands : Stands t c j k
   pub inside : c ≤ n * t
@@ -46,14 +47,14 @@ pub record Walking (n t : ℕ) (shifts marks p : List ℕ) (c j k : ℕ) (answer
 -- what joining needs to know of the numbers
 pub record Reach (t : ℕ) (shifts p : List ℕ) (j k : ℕ) : Type 0 where
   pub section : j < length shifts
-  pub section-small : j < 32
+  pub section-small : j < maxN
   pub shift : getD shifts j 0 < t
   pub offset : k < t
-  pub few : t ≤ 2048
+  pub few : t ≤ maxT
   pub top-in : k < length p
   pub bottom-in : bottomRow t (getD shifts j 0) k < length p
 
-pub joinable : {n t : ℕ} {shifts p : List ℕ} {c j k : ℕ} → Sized n t shifts → Joinable n t p c j k → Reach t shifts p j k
+pub joinable : {n t : ℕ} {shifts p : List ℕ} {c j k : ℕ} → GoodPlan n t shifts → Joinable n t p c j k → Reach t shifts p j k
 unfolding bottomRow
 joinable {n} {t} {shifts} {p} {c} {j} {k} s m =
     let h : j < n = stands-inside (m .stands) n (m .inside) in
@@ -76,7 +77,7 @@ unites-at shifts {n} {t} {p} {q} {c} {j} {k} {x} {y} {b} m d e u =
 
 -- ---- the steps of the walk
 
-module _ {n t : ℕ} {shifts : List ℕ} (s : Sized n t shifts) (marks : List ℕ) where
+module _ {n t : ℕ} {shifts : List ℕ} (s : GoodPlan n t shifts) (marks : List ℕ) where
   layout-erasure : {d : ℕ} → d ∈ erasures (layout n t shifts) marks → (d < n * t) × (mark marks d ≡ 1)
   unfolding layout
   layout-erasure {d} m = let o = in-erasures (layout n t shifts) marks d .0 m in (places-∈ (layout n t shifts) (o .0) .0, o .1)
@@ -130,7 +131,7 @@ walking-join {n} {t} {shifts} {marks} {p} {c} {a} d b w s e m u =
     }
 
 -- the walk starts past the last place, with every row its own parent
-pub walking-start : {n t : ℕ} {shifts : List ℕ} → Sized n t shifts → (marks : List ℕ) {p q : List ℕ} → length marks ≡ (n * t + 7) / 8 → length p ≡ 2 * t
+pub walking-start : {n t : ℕ} {shifts : List ℕ} → GoodPlan n t shifts → (marks : List ℕ) {p q : List ℕ} → length marks ≡ (n * t + 7) / 8 → length p ≡ 2 * t
     → Own p q (length p) → Walking n t shifts marks q (n * t) n 0 None
 unfolding layout
 walking-start {n} {t} {shifts} s marks {p} {q} b l h = record {

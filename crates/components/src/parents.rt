@@ -4,21 +4,23 @@ ghost use Prim.Native.Nat.{_≤_, _<_};
 ghost use lib.ListN.{length};
 ghost use Rattle.components.specs.Parents.{Falls, Found, Unites, Own, Settled};
 use plan::Row;
+use tables::lists::put_row;
+use tables::lists::row_at;
 
 // The root of row x; the rows on the way are hung higher.
 fn find(parent: &mut [u16], x: Row) -> Row
     requires { ⌜ Falls (now parent) × (x .0 < length (now parent)) ⌝ }
     ensures { λ r. ⌜ Found (now (parent .entry)) (x .0) (now (parent .exit)) (r .0) ⌝ }
 {
-    let mut r = x.0 as usize;
-    let mut up = parent[r] as usize;
-    while up < r {
-        let over = parent[up];
-        parent[r] = over;
-        r = over as usize;
-        up = parent[r] as usize;
+    let mut r = x;
+    let mut up = row_at(&parent[..], r.0 as usize);
+    while up.0 < r.0 {
+        let over = row_at(&parent[..], up.0 as usize);
+        put_row(&mut parent[..], r.0 as usize, over);
+        r = over;
+        up = row_at(&parent[..], r.0 as usize);
     }
-    Row(r as u16)
+    r
 }
 
 // Rows x and y are joined. The answer: they were joined before.
@@ -29,13 +31,11 @@ pub(crate) fn unite(parent: &mut [u16], x: Row, y: Row) -> bool
     let a = find(&mut parent[..], x);
     let b = find(&mut parent[..], y);
     if a.0 < b.0 {
-        let i = b.0 as usize;
-        parent[i] = a.0;
+        put_row(&mut parent[..], b.0 as usize, a);
         return false;
     }
     if b.0 < a.0 {
-        let i = a.0 as usize;
-        parent[i] = b.0;
+        put_row(&mut parent[..], a.0 as usize, b);
         return false;
     }
     true
@@ -48,7 +48,7 @@ pub(crate) fn own(parent: &mut [u16])
 {
     let mut r = 0;
     while r < parent.len() {
-        parent[r] = r as u16;
+        put_row(&mut parent[..], r, Row(r as u16));
         r += 1;
     }
 }
@@ -60,8 +60,9 @@ pub(crate) fn settle(parent: &mut [u16])
 {
     let mut r = 0;
     while r < parent.len() {
-        let up = parent[r] as usize;
-        parent[r] = parent[up];
+        let up = row_at(&parent[..], r);
+        let root = row_at(&parent[..], up.0 as usize);
+        put_row(&mut parent[..], r, root);
         r += 1;
     }
 }

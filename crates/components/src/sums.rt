@@ -2,11 +2,14 @@
 ghost use mathlib.Core.Path.{_≡_};
 ghost use Prim.Native.Nat.{ℕ, _+_, _*_, _≤_, _<_};
 ghost use lib.ListN.{length, getD, replicate};
+ghost use Rattle.bounds.specs.Bounds.{maxT};
 ghost use Rattle.components.specs.Lists.{Adds, First, Gathers};
 ghost use Rattle.components.specs.Shows.{Lent, Shows};
 use plan::Row;
-use tables::marks::clear_bytes;
-use tables::marks::clear_words;
+use slices::clear_bytes;
+use slices::clear_words;
+use tables::lists::put_row;
+use tables::lists::row_at;
 
 // The answer of crossed: every component sums to 0, or so many rows of the first that does not are written.
 pub enum Rows {
@@ -21,7 +24,7 @@ fn add_up(rows: usize, parent: &[u16], sum: &[u8], total: &mut [u8])
 {
     let mut r = 0;
     while r < rows {
-        let q = parent[r] as usize;
+        let q = row_at(parent, r).0 as usize;
         total[q] = total[q] ^ sum[r];
         r += 1;
     }
@@ -29,7 +32,7 @@ fn add_up(rows: usize, parent: &[u16], sum: &[u8], total: &mut [u8])
 
 // The first row whose sum is not 0, or the one past the last.
 fn first(rows: usize, total: &[u8]) -> Row
-    requires { ⌜ (length (now total) ≡ rows) × (rows ≤ 4096) ⌝ }
+    requires { ⌜ (length (now total) ≡ rows) × (rows ≤ 2 * maxT) ⌝ }
     ensures { λ r. ⌜ First rows (now (total .entry)) (r .0) ⌝ }
 {
     let mut r = 0;
@@ -44,20 +47,19 @@ fn first(rows: usize, total: &[u8]) -> Row
 
 // Row s is written at z if its parent is q. The answer: the number of rows written.
 fn note(rows: usize, parent: &[u16], q: Row, witness: &mut [u16], s: Row, z: usize) -> usize
-    requires { ⌜ Gathers rows (now parent) (q .0) (now witness) z (s .0) × (length (now parent) ≡ rows) × (length (now witness) ≡ rows) × (rows ≤ 4096) × (s .0 < rows) ⌝ }
+    requires { ⌜ Gathers rows (now parent) (q .0) (now witness) z (s .0) × (length (now parent) ≡ rows) × (length (now witness) ≡ rows) × (rows ≤ 2 * maxT) × (s .0 < rows) ⌝ }
     ensures { λ r. ⌜ Gathers rows (now (parent .entry)) (q .0) (now (witness .exit)) r (s .0 + 1) ⌝ }
 {
-    let i = s.0 as usize;
-    if parent[i] != q.0 {
+    if row_at(parent, s.0 as usize).0 != q.0 {
         return z;
     }
-    witness[z] = s.0;
+    put_row(&mut witness[..], z, s);
     z + 1
 }
 
 // The rows whose parent is q, rising. The answer: their number.
 fn gather(rows: usize, parent: &[u16], q: Row, witness: &mut [u16]) -> usize
-    requires { ⌜ (now witness ≡ replicate rows 0) × (length (now parent) ≡ rows) × (rows ≤ 4096) ⌝ }
+    requires { ⌜ (now witness ≡ replicate rows 0) × (length (now parent) ≡ rows) × (rows ≤ 2 * maxT) ⌝ }
     ensures { λ r. ⌜ Gathers rows (now (parent .entry)) (q .0) (now (witness .exit)) r rows ⌝ }
 {
     let mut z = 0;

@@ -2,9 +2,10 @@
 ghost use mathlib.Core.Path.{_≡_};
 ghost use Prim.Native.Nat.{ℕ, _+_, _*_, _/_, _≤_, _<_};
 ghost use lib.ListN.{length, getD};
+ghost use Rattle.bounds.specs.Bounds.{maxT, maxPlaces};
 ghost use Rattle.plan.specs.Layout.{layout};
-ghost use Rattle.code.specs.Marks.{mark, erasures};
-ghost use Rattle.tables.specs.Picture.{Sized};
+ghost use Rattle.plan.specs.GoodPlan.{GoodPlan};
+ghost use Rattle.code.specs.Marks.{erasures};
 ghost use Rattle.tables.specs.Spots.{Stands};
 ghost use Rattle.components.specs.Walks.{closing, Labelled};
 ghost use Rattle.components.specs.Gaps.{Gap};
@@ -12,12 +13,13 @@ ghost use Rattle.components.specs.Walking.{Walking, Joinable, UnitesAt, 
 use crate::parents::own;
 use crate::parents::settle;
 use crate::parents::unite;
+use bits::marks::bit;
+use bits::words::pass_zeros;
+use bits::words::word_from;
 use plan::Place;
 use tables::rows::bottom;
 use tables::rows::top;
 use tables::walk::Spot;
-use tables::words::pass_zeros;
-use tables::words::word_from;
 
 // The highest place that closes a cycle of marked places.
 pub enum Closing {
@@ -33,7 +35,7 @@ pub struct Walk {
 
 // m places back.
 fn back(spot: Spot, t: usize, m: usize) -> Spot
-    requires { ⌜ Stands t (spot .place .0) (spot .section) (spot .offset) × (m ≤ spot .place .0) × (m ≤ 64) × (t ≤ 2048) ⌝ }
+    requires { ⌜ Stands t (spot .place .0) (spot .section) (spot .offset) × (m ≤ spot .place .0) × (m ≤ 64) × (t ≤ maxT) ⌝ }
     ensures { λ r. ⌜ Stands t (r .place .0) (r .section) (r .offset) × (r .place .0 + m ≡ spot .place .0) ⌝ }
 {
     let mut section = spot.section;
@@ -49,43 +51,33 @@ fn back(spot: Spot, t: usize, m: usize) -> Spot
     }
 }
 
-// The byte where a word of marks begins that holds place c - 1, near its end if it can.
-fn byte_below(c: usize) -> usize
-    requires { ⌜ (0 < c) × (c ≤ 32768) ⌝ }
-    ensures { λ r. ⌜ (8 * r < c) × (c ≤ 8 * r + 64) ⌝ }
+// The byte where a word of marks begins that holds the place before c, near its end if it can.
+fn byte_below(c: Place) -> usize
+    requires { ⌜ (0 < c .0) × (c .0 ≤ maxPlaces) ⌝ }
+    ensures { λ r. ⌜ (8 * r < c .0) × (c .0 ≤ 8 * r + 64) ⌝ }
 {
-    if c <= 64 {
+    if c.0 <= 64 {
         return 0;
     }
-    (c + 7) / 8 - 8
+    (c.0 as usize + 7) / 8 - 8
 }
 
 // The number of places next below c that are not marked, as far as a word of marks tells.
-fn gap(marks: &[u8], c: usize) -> usize
-    requires { ⌜ (c ≤ 8 * length (now marks)) × (length (now marks) ≤ 4096) ⌝ }
-    ensures { λ r. ⌜ Gap (now (marks .entry)) c r ⌝ }
+fn gap(marks: &[u8], c: Place) -> usize
+    requires { ⌜ (c .0 ≤ 8 * length (now marks)) × (length (now marks) ≤ maxPlaces / 8) ⌝ }
+    ensures { λ r. ⌜ Gap (now (marks .entry)) (c .0) r ⌝ }
 {
-    if c == 0 {
+    if c.0 == 0 {
         return 0;
     }
     let i = byte_below(c);
-    let known = c - 8 * i;
+    let known = c.0 as usize - 8 * i;
     let word = word_from(marks, i, Place(0)) << (64 - known);
     let zeros = u64::leading_zeros(word) as usize;
     if known < zeros {
         return known;
     }
     zeros
-}
-
-// The bit of place c.
-fn bit(marks: &[u8], c: Place) -> u8
-    requires { ⌜ c .0 / 8 < length (now marks) ⌝ }
-    ensures { λ r. ⌜ r ≡ mark (now (marks .entry)) (c .0) ⌝ }
-{
-    let i = c.0 as usize / 8;
-    let k = c.0 % 8;
-    (marks[i] >> k) % 2
 }
 
 // The answer once place c is passed, which closes a cycle or not.
@@ -106,7 +98,7 @@ fn noted(k: Closing, closes: bool, c: Place) -> Closing
 
 // The rows of the spot's place are joined. The answer: they were joined before.
 fn join(n: usize, t: usize, shifts: &[u16], parent: &mut [u16], spot: Spot) -> bool
-    requires { ⌜ Sized n t (now shifts) × Joinable n t (now parent) (spot .place .0) (spot .section) (spot .offset) ⌝ }
+    requires { ⌜ GoodPlan n t (now shifts) × Joinable n t (now parent) (spot .place .0) (spot .section) (spot .offset) ⌝ }
     ensures { λ r. ⌜ UnitesAt (layout n t (now (shifts .entry))) (spot .place .0) (now (parent .entry)) (now (parent .exit)) r ⌝ }
 {
     let section = spot.section;
@@ -121,7 +113,8 @@ fn step(n: usize, t: usize, shifts: &[u16], marks: &[u8], parent: &mut [u16], wa
     let k = walk.closing;
     let at = back(walk.spot, t, 1);
     if bit(marks, at.place) == 0 {
-        let m = gap(marks, at.place.0 as usize);
+        let c = at.place;
+        let m = gap(marks, c);
         return Walk {
             spot: back(at, t, m),
             closing: k,
@@ -158,7 +151,7 @@ fn pass(n: usize, t: usize, shifts: &[u16], marks: &[u8], parent: &mut [u16]) ->
 
 // The label of every row, which is the lowest row of its component, and the highest place that closes a cycle.
 pub fn labels(n: usize, t: usize, shifts: &[u16], marks: &[u8], parent: &mut [u16]) -> Closing
-    requires { ⌜ Sized n t (now shifts) × (length (now marks) ≡ (n * t + 7) / 8) × (length (now parent) ≡ 2 * t) ⌝ }
+    requires { ⌜ GoodPlan n t (now shifts) × (length (now marks) ≡ (n * t + 7) / 8) × (length (now parent) ≡ 2 * t) ⌝ }
     ensures { λ r. ⌜ Labelled (layout n t (now (shifts .entry))) (erasures (layout n t (now (shifts .entry))) (now (marks .entry))) (now (parent .exit)) r ⌝ }
 {
     own(&mut parent[..]);

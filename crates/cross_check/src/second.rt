@@ -7,5 +7,5 @@ pub(crate) mod messages;
 pub(crate) mod outcomes;
 pub(crate) mod peeling;
 pub(crate) mod plans;
-pub(crate) mod refusals;
+pub(crate) mod refusing;
 pub(crate) mod rows;

@@ -21,17 +21,18 @@ use Rattle.code.specs.Laws.Basics.{meets-row, syndrome-zero}
 use Rattle.code.specs.Laws.Paths.{∈-above, erased-above, path}
 use Rattle.code.specs.Laws.CycleLaws.{cycle-length, forest-no-cycle}
 use Rattle.code.specs.Laws.MarksLaws.{erasures-erased}
-use Rattle.tables.specs.Picture.{Sized, weight, onRow, Counted, Picture, Stuck}
-use Rattle.tables.specs.Sizes.{sized-valid, sized-∈}
+use Rattle.tables.specs.Picture.{weight, onRow, Counted, Picture, Stuck}
+use Rattle.tables.specs.Sizes.{sized-∈}
 use Rattle.tables.specs.Counting.{fromPlace, in-from, from-in}
 use Rattle.tables.specs.StuckLaws.{forest-sub, twos, met-two, cycle-survives, cycle-into, top-next, bottom-next, last-next}
 use Rattle.peel.specs.Peels.{Peelable, Peels, Peeled}
 use Rattle.math.specs.Padded.{padded}
+use Rattle.plan.specs.GoodPlan.{GoodPlan, plan-valid}
 use Rattle.cycle.specs.Walks.{Walks, Walkable, Walked}
 
 -- c is the highest place that closes a cycle
 pub record Closing (n t : ℕ) (shifts marks : List ℕ) (c : ℕ) : Type 0 where
-  pub sized : Sized n t shifts
+  pub sized : GoodPlan n t shifts
   pub marks-long : length marks ≡ (n * t + 7) / 8
   pub no-spare : NoSpare (layout n t shifts) marks
   pub member : c ∈ erasures (layout n t shifts) marks
@@ -173,7 +174,7 @@ module _ {n t : ℕ} {shifts marks : List ℕ} {c : ℕ} (p : Closing n t shifts
       E = erasures L marks
 
       ok : Valid L
-      ok = sized-valid (p .sized)
+      ok = plan-valid (p .sized)
 
       er : Erased L E
       er = erasures-erased L marks
@@ -224,5 +225,5 @@ module _ {n t : ℕ} {shifts marks : List ℕ} {c : ℕ} (p : Closing n t shifts
         first = s .first;
         counted = v .counted (s .cycle) (s .walks);
         written = v .written (s .cycle) (s .walks);
-        highest = λ m cy. rw (s .first) (highest (layout n t shifts) (sized-valid (p .sized)) (erasures-erased (layout n t shifts) marks) (p .forest) m cy);
+        highest = λ m cy. rw (s .first) (highest (layout n t shifts) (plan-valid (p .sized)) (erasures-erased (layout n t shifts) marks) (p .forest) m cy);
       }

@@ -10,12 +10,14 @@ use native.Mathlib.Omega.{arith}
 use lib.ListN.{length, getD, take, set, replicate}
 use lib.Seq.{length-take-le}
 use Rattle.math.specs.Padded.{padded, length-padded, padded-none, padded-take, padded-all}
+use Rattle.bounds.specs.Bounds.{maxPlaces}
 use Rattle.plan.specs.Layout.{layout, top, bottom, bottomRow}
+use Rattle.plan.specs.GoodPlan.{GoodPlan, plan-valid}
 use Rattle.code.specs.Places.{Meets}
 use Rattle.code.specs.Codewords.{at}
 use Rattle.code.specs.Laws.Basics.{meets-row}
-use Rattle.tables.specs.Picture.{Sized, weight}
-use Rattle.tables.specs.Sizes.{sized-valid, ∈-sized}
+use Rattle.tables.specs.Picture.{tallyUnit, weight}
+use Rattle.tables.specs.Sizes.{∈-sized}
 use Rattle.tables.specs.Spots.{Stands, stands-section, stands-inside, stands-top, stands-bottom}
 use Rattle.tables.specs.Beside.{Beside, beside-offset, beside-place}
 
@@ -30,7 +32,7 @@ pub record Two (n t : ℕ) (shifts tally : List ℕ) (r c d : ℕ) : Type 0 wher
 
 -- what `mate` requires: place c is symbol k of section j, and row r has it and another
 pub record Mating (n t : ℕ) (shifts tally : List ℕ) (r c j k : ℕ) : Type 0 where
-  pub sized : Sized n t shifts
+  pub sized : GoodPlan n t shifts
   pub long : length tally ≡ 2 * t
   pub stands : Stands t c j k
   pub other : ℕ
@@ -43,19 +45,19 @@ pub record Mate (n t : ℕ) (shifts tally : List ℕ) (r c place j k : ℕ) : Ty
 module _ {n t : ℕ} {shifts tally : List ℕ} {r c j k : ℕ} (m : Mating n t shifts tally r c j k) where
   pub mate-row : r < 2 * t
   unfolding layout
-  mate-row = meets-row (layout n t shifts) (sized-valid (m .sized)) (m .other) (m .two .other-meets)
+  mate-row = meets-row (layout n t shifts) (plan-valid (m .sized)) (m .other) (m .two .other-meets)
 
-  sections : (d : ℕ) → Two n t shifts tally r c d → getD tally r 0 ≡ 2048 + j + d / t
+  sections : (d : ℕ) → Two n t shifts tally r c d → getD tally r 0 ≡ 2 * tallyUnit + j + d / t
   unfolding weight
   sections d w = omega (arith, w .tallied, stands-section (m .stands))
 
-  pub mate-room : 2048 + j ≤ getD tally r 0
+  pub mate-room : 2 * tallyUnit + j ≤ getD tally r 0
   mate-room = omega (arith, sections (m .other) (m .two))
 
   section-small : (d : ℕ) → Two n t shifts tally r c d → d / t < n
   section-small d w = div-lt-iff-lt-mul {y = n} (m .sized .t-min) .1 (w .other-inside)
 
-  pub mate-few : getD tally r 0 < 4096
+  pub mate-few : getD tally r 0 < 4 * tallyUnit
   mate-few =
       omega (
         arith,
@@ -66,7 +68,7 @@ module _ {n t : ℕ} {shifts tally : List ℕ} {r c j k : ℕ} (m : Mating n t s
       )
 
   -- i is the other section
-  module _ {i : ℕ} (e : i ≡ getD tally r 0 - 2048 - j) where
+  module _ {i : ℕ} (e : i ≡ getD tally r 0 - 2 * tallyUnit - j) where
     its-section : (d : ℕ) → Two n t shifts tally r c d → d / t ≡ i
     its-section d w = omega (arith, sections d w)
 
@@ -79,7 +81,7 @@ module _ {n t : ℕ} {shifts tally : List ℕ} {r c j k : ℕ} (m : Mating n t s
       found : (d : ℕ) → Two n t shifts tally r c d → i * t + o ≡ d
       found d w = beside-place (m .sized) (∈-sized (m .sized) (w .other-inside)) (w .other-meets) (its-section d w) q
 
-      pub mate-place : i * t + o < 32768
+      pub mate-place : i * t + o < maxPlaces
       mate-place = omega (arith, found (m .other) (m .two), m .two .other-inside, m .sized .places-max)
 
       pub mate : {place : ℕ} → place ≡ i * t + o → Mate n t shifts tally r c place i o
@@ -102,7 +104,7 @@ pub record Couple (n t : ℕ) (shifts tally : List ℕ) (c d e : ℕ) : Type 0 w
 
 -- what `pair` requires: place c is symbol k of section j
 pub record Coupled (n t : ℕ) (shifts tally : List ℕ) (c j k : ℕ) : Type 0 where
-  pub sized : Sized n t shifts
+  pub sized : GoodPlan n t shifts
   pub long : length tally ≡ 2 * t
   pub stands : Stands t c j k
   pub second : ℕ
@@ -149,10 +151,10 @@ module _ {n t : ℕ} {shifts tally : List ℕ} {c j k : ℕ} (p : Coupled n t sh
             two = at-bottom (p .couple);
           }
 
-      pub paired : (w w' : List ℕ) (z : ℕ) {place' i' o' : ℕ} → Mate n t shifts tally b place place' i' o' → w' ≡ set (set w z c) (z + 1) place
+      pub paired : (w w₁ w' : List ℕ) (z : ℕ) {place' i' o' : ℕ} → Mate n t shifts tally b place place' i' o' → w₁ ≡ set w z c → w' ≡ set w₁ (z + 1) place
           → Paired n t shifts tally c w w' z place' i' o'
-      paired w w' z m' ew = record {
-        written = λ d e q. ew ∙ ap (set (set w z c) (z + 1)) (second-is d (q .on-top) .0);
+      paired w w₁ w' z m' ew₁ ew = record {
+        written = λ d e q. ew ∙ ap (λ l. set l (z + 1) place) ew₁ ∙ ap (set (set w z c) (z + 1)) (second-is d (q .on-top) .0);
         next = λ d e q. m' .is e (at-bottom q);
       }
 
@@ -172,7 +174,7 @@ pub record Walks (n t : ℕ) (shifts tally : List ℕ) (first : ℕ) (l : List �
 
 -- what `walk` requires: the first place is symbol k of section j
 pub record Walkable (n t : ℕ) (shifts tally : List ℕ) (first j k : ℕ) : Type 0 where
-  pub sized : Sized n t shifts
+  pub sized : GoodPlan n t shifts
   pub long : length tally ≡ 2 * t
   pub stands : Stands t first j k
   pub cycle : List ℕ
@@ -192,7 +194,7 @@ pub record Walking (t : ℕ) (l w : List ℕ) (z place j k : ℕ) : Type 0 where
   pub stands : Stands t place j k
   pub written : w ≡ padded (2 * t) (take z l)
 
-module _ {n t : ℕ} {shifts tally : List ℕ} {first : ℕ} {l : List ℕ} (sz : Sized n t shifts) (s : Walks n t shifts tally first l) where
+module _ {n t : ℕ} {shifts tally : List ℕ} {first : ℕ} {l : List ℕ} (sz : GoodPlan n t shifts) (s : Walks n t shifts tally first l) where
   pub walking-start : (w : List ℕ) {j k : ℕ} → Stands t first j k → w ≡ replicate (2 * t) 0 → Walking t l w 0 first j k
   walking-start w st e =
       record {

@@ -1,4 +1,5 @@
 // The cycle of erasures that a closing place makes: walking it by the row tables.
+// Public for the crates above only.
 ghost use mathlib.Core.Path.{_≡_};
 ghost use Prim.Native.Nat.{_*_};
 ghost use lib.ListN.{length};
@@ -6,8 +7,8 @@ ghost use Rattle.cycle.specs.Shows.{Closing, Room, Begun, Stripped, Show
 use crate::walk::walk;
 use peel::peel;
 use plan::Place;
+use slices::clear_bytes;
 use tables::count;
-use tables::marks::clear_bytes;
 use tables::walk::Spot;
 
 pub mod walk;

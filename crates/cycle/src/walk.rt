@@ -4,20 +4,24 @@ ghost use Prim.Native.Nat.{_+_, _*_, _<_};
 ghost use lib.ListN.{length};
 ghost use Rattle.cycle.specs.Walks.{Coupled, Mate, Mating, Paired, Walkable, Walked};
 use plan::Place;
-use tables::marks::clear_words;
+use plan::Row;
+use slices::clear_words;
+use tables::lists::put_place;
+use tables::rows::TALLY_UNIT;
 use tables::rows::beside;
 use tables::rows::bottom;
 use tables::rows::top;
 use tables::walk::Spot;
 
-// The other place on a row that has two: its tally is 2,048 and the two sections.
-fn mate(n: usize, t: usize, shifts: &[u16], tally: &[u16], row: usize, spot: Spot) -> Spot
-    requires { ⌜ Mating n t (now shifts) (now tally) row (spot .place .0) (spot .section) (spot .offset) ⌝ }
-    ensures { λ r. ⌜ Mate n t (now (shifts .entry)) (now (tally .entry)) row (spot .place .0) (r .place .0) (r .section) (r .offset) ⌝ }
+// The other place on a row that has two: its tally is twice the unit and the two sections.
+fn mate(n: usize, t: usize, shifts: &[u16], tally: &[u16], row: Row, spot: Spot) -> Spot
+    requires { ⌜ Mating n t (now shifts) (now tally) (row .0) (spot .place .0) (spot .section) (spot .offset) ⌝ }
+    ensures { λ r. ⌜ Mate n t (now (shifts .entry)) (now (tally .entry)) (row .0) (spot .place .0) (r .place .0) (r .section) (r .offset) ⌝ }
 {
-    let section = tally[row] as usize - 2048 - spot.section;
+    let r = row.0 as usize;
+    let section = tally[r] as usize - 2 * TALLY_UNIT as usize - spot.section;
     let p = shifts[section] as usize;
-    let offset = beside(t, p, row).offset;
+    let offset = beside(t, p, r).offset;
     Spot {
         place: Place((section * t + offset) as u16),
         section,
@@ -39,13 +43,15 @@ fn pair(
     requires { ⌜ z + 1 < length (now witness) ⌝ }
     ensures { λ r. ⌜ Paired n t (now (shifts .entry)) (now (tally .entry)) (one .place .0) (now (witness .entry)) (now (witness .exit)) z (r .place .0) (r .section) (r .offset) ⌝ }
 {
-    let high = top(one).0 as usize;
+    let high = top(one);
     let two = mate(n, t, shifts, tally, high, one);
     let j = two.section;
     let p = shifts[j] as usize;
-    witness[z] = one.place.0;
-    witness[z + 1] = two.place.0;
-    let low = bottom(two, t, p).0 as usize;
+    let c = one.place;
+    let d = two.place;
+    put_place(&mut witness[..], z, c);
+    put_place(&mut witness[..], z + 1, d);
+    let low = bottom(two, t, p);
     mate(n, t, shifts, tally, low, two)
 }
 

@@ -1,12 +1,13 @@
 -- What an attempt by peeling shows. Main results: tried-fills, tried-recovers (nothing is left: the block is filled with the one codeword that agrees),
--- tried-explains (otherwise the refusal is explained: if the erasures are a forest, no codeword agrees), call-given, call-decided (the call).
+-- tried-explains (otherwise the refusal is explained: if the erasures are a forest, no codeword agrees), sum-array, cut-arrays (tables of any size),
+-- call-given, call-decided (the call).
 use mathlib.Core.Path.{_≡_, refl, sym, _∙_, ap}
 use mathlib.Core.Logic.{inl, by-cases}
-use mathlib.Core.Bool.{true, false, true≢false}
+use mathlib.Core.Bool.{Bool, true, false, true≢false}
 use mathlib.Core.List.{List, [], List·Memᴰ·not-nil, Memᴰ·cast}
 use Prim.Native.Nat.{ℕ, _*_, _≤_, _<_}
 use native.Mathlib.Omega.{arith}
-use lib.ListN.{length, getD, take, replicate, length-replicate}
+use lib.ListN.{length, getD, take, replicate}
 use lib.Seq.{ext-getD, length-take-le}
 use Rattle.math.specs.Members.{_∈_}
 use Rattle.math.specs.MembersLaws.{decIn}
@@ -14,6 +15,7 @@ use Rattle.plan.specs.Layout.{Layout, Valid, layout, top}
 use Rattle.plan.specs.Plans.{layoutOf}
 use Rattle.plan.specs.PlanLaws.{good-bounds}
 use Rattle.plan.specs.declared.Plan.{Plan}
+use Rattle.plan.specs.GoodPlan.{plan-valid}
 use Rattle.code.specs.Places.{places}
 use Rattle.code.specs.Codewords.{at, Agrees, None}
 use Rattle.code.specs.Marks.{markBytes, erasures}
@@ -21,7 +23,7 @@ use Rattle.code.specs.Laws.Forest.{Erased, Forest}
 use Rattle.code.specs.Laws.Basics.{places-∈, syndrome-ext}
 use Rattle.code.specs.Laws.MarksLaws.{erasures-erased}
 use Rattle.tables.specs.Picture.{weight, Counted, Picture}
-use Rattle.tables.specs.Sizes.{sized-valid, ∈-sized}
+use Rattle.tables.specs.Sizes.{∈-sized}
 use Rattle.tables.specs.Counting.{fromPlace, from-zero}
 use Rattle.tables.specs.Scan.{Lent}
 use Rattle.sums.specs.SumLaws.{Syndromes}
@@ -32,13 +34,13 @@ use Rattle.peel.specs.Peels.{Peelable, Peeled, Peels}
 use Rattle.settling.specs.Fill.{filled, Fillable, filled-long, filled-out, filled-at, cleanOf, clean-zero, zero-clean}
 use Rattle.calls.specs.Calls.{checkOf}
 use Rattle.calls.specs.CallsLaws.{pass-good, pass-spare}
-use Rattle.calls.specs.declared.Check.the-variants.{Pass}
+use Rattle.refusals.specs.declared.Check.the-variants.{Pass}
 use Rattle.promises.specs.Promises.{Decides, Recovers, recoverLent}
 use Rattle.promises.specs.Building.{decides-recovered, recovers-passed, recover-lengths}
 use Rattle.promises.specs.declared.Recovery.{Recovery}
 use Rattle.promises.specs.declared.Recovery.the-variants.{Recovered}
-use Rattle.tables.specs.Zeros.{Zeros, zeros, zeros-part}
-use Rattle.whole.specs.Whole.{Summed}
+use Rattle.tables.specs.Zeros.{Zeros, zeros-of, zeros-room, zeros-part}
+use Rattle.whole.specs.Whole.{Summed, Intact}
 use Rattle.explaining.specs.Explains.{Explains}
 
 -- what a call that is not refused is lent
@@ -126,12 +128,20 @@ module _ (L : Layout) (ok : Valid L) (E v : List ℕ) {sum tally place value : L
 
 -- ---- the tables
 
--- arrays of k zeros beside the sums
-pub cut-arrays : {n t : ℕ} {shifts block sum : List ℕ} (k : ℕ) → 2 * t ≤ k → Summed n t shifts block sum
-    → Cut n t shifts block sum (replicate k 0) (replicate k 0) (replicate k 0)
-cut-arrays {t = t} k h s =
-    let room : 2 * t ≤ length (replicate {A = ℕ} k 0) = omega (arith, length-replicate {A = ℕ} k 0) in
-    record { summed = s; tally-zeros = zeros k h; place-room = room; value-room = room }
+-- The law of every size: arrays of k zeros are tables for a plan whose rows are at most k. First the one for the sums, then those beside the sums, and
+-- the answer where the block is whole as it stands.
+module _ {n t m : ℕ} {shifts block marks witness : List ℕ} (k : ℕ) (g : Given n t shifts block marks witness × (t ≤ m)) (h : 2 * m ≤ k) where
+  pub sum-array : (Lent n t shifts marks × (length block ≡ n * t)) × Zeros (2 * t) (replicate k 0)
+  sum-array = zeros-of k ((g .0 .marked, g .0 .block-long), g .1) h
+
+  pub cut-arrays : {sum : List ℕ} → Summed n t shifts block sum
+      → Given n t shifts block marks witness × Cut n t shifts block sum (replicate k 0) (replicate k 0) (replicate k 0)
+  cut-arrays s = (g .0, record { summed = s; tally-zeros = sum-array .1; place-room = zeros-room (sum-array .1); value-room = zeros-room (sum-array .1) })
+
+pub given-intact : {n t : ℕ} {shifts block marks witness w' : List ℕ} {b : Bool} {r : Recovery} → Given n t shifts block marks witness
+    → Intact n t shifts block marks b → b ≡ true → (r ≡ Recovered) × (w' ≡ replicate (length witness) 0)
+    → Decides (layout n t shifts) (erasures (layout n t shifts) marks) block r block w'
+given-intact g i e q = i .decides e (q .0, q .1 ∙ ap (λ l. replicate l 0) (g .witness-long))
 
 pub cut-tables : {n t : ℕ} {shifts block sum tally place value : List ℕ} → Cut n t shifts block sum tally place value
     → Tables n t shifts block (take (2 * t) sum) (take (2 * t) tally) (take (2 * t) place) (take (2 * t) value)
@@ -183,7 +193,7 @@ module _ {n t : ℕ} {shifts block marks witness sum tally place value : List �
   tried-fills = record {
     places = omega (arith, d .peels .few, d .peels .place-long);
     values = omega (arith, d .peels .few, d .peels .value-long);
-    inside = settled-in (layout n t shifts) (sized-valid (g .marked .sized)) (erasures (layout n t shifts) marks) block (erasures-erased (layout n t shifts) marks) (g .block-long) peeled;
+    inside = settled-in (layout n t shifts) (plan-valid (g .marked .sized)) (erasures (layout n t shifts) marks) block (erasures-erased (layout n t shifts) marks) (g .block-long) peeled;
   }
 
   pub tried-recovers : {a : Recovery} {v' w' : List ℕ} → cleanOf sum tally ≡ true → v' ≡ filled block place value k
@@ -192,7 +202,7 @@ module _ {n t : ℕ} {shifts block marks witness sum tally place value : List �
   unfolding layout
   tried-recovers clean e q =
       let L = layout n t shifts in
-      let ok = sized-valid (g .marked .sized) in
+      let ok = plan-valid (g .marked .sized) in
       let E = erasures L marks in
       let er = erasures-erased L marks in
       rw (e, q .0) (decides-recovered (filled-agrees L ok E block er (g .block-long) peeled clean)
@@ -215,29 +225,20 @@ module _ {n t : ℕ} {shifts block marks witness sum tally place value : List �
   tried-explains dirty x =
       x .decides block (peeled .x) (g .block-long) (d .begun .symbols)
       (λ c m out. peeled .settles .kept c out) (peeled .picture .sums)
-      (forest-none (layout n t shifts) (sized-valid (g .marked .sized)) (erasures (layout n t shifts) marks) block
+      (forest-none (layout n t shifts) (plan-valid (g .marked .sized)) (erasures (layout n t shifts) marks) block
       (erasures-erased (layout n t shifts) marks) (g .block-long) peeled dirty)
 
 -- ---- the call
 
-pub call-given : (p : Plan) (v m w : List ℕ) → length (p .shifts) ≡ 32 → checkOf p (recoverLent v m w) m ≡ Pass → Given (p .n) (p .t) (p .shifts) v m w
+pub call-given : (p : Plan) (v m w : List ℕ) → checkOf p (recoverLent v m w) m ≡ Pass → Given (p .n) (p .t) (p .shifts) v m w
 unfolding layoutOf layout markBytes
-call-given p v m w long pass =
+call-given p v m w pass =
     let l = recover-lengths p v m w pass in
-    let g = good-bounds p (pass-good p (recoverLent v m w) m pass) in
     record {
       marked = record {
-        sized = record {
-          n-min = g .size .n-least;
-          n-max = g .size .n-most;
-          t-min = g .size .t-least;
-          t-max = g .size .t-most;
-          places-max = g .size .places-most;
-          long = omega (arith, g .size .n-most);
-          below = g .below;
-        };
+        sized = good-bounds p (pass-good p (recoverLent v m w) m pass);
         marks-long = l .1;
-        no-spare = pass-spare p (recoverLent v m w) m pass;
+        no-spare = pass-spare p (recoverLent v m w) m pass (l .1);
       };
       block-long = l .0;
       witness-long = l .2;

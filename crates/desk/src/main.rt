@@ -177,7 +177,7 @@ fn turn(
         Turn::On(bytes, length) => moved(desk, held, bytes, length),
         Turn::Wait => refill(desk, sheet, input),
         Turn::End(length) => close(desk, sheet, length),
-        Turn::Stop(length) => close(desk, sheet, length),
+        Turn::Stop(_, length) => close(desk, sheet, length),
         Turn::Bad(_) => stopped(desk),
     }
 }

@@ -65,7 +65,7 @@ fn written(turn: Turn) -> usize {
     match turn {
         Turn::On(_, length) => length,
         Turn::End(length) => length,
-        Turn::Stop(length) => length,
+        Turn::Stop(_, length) => length,
         Turn::Wait => 0,
         Turn::Bad(_) => 0,
     }

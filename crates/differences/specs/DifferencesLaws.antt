@@ -11,6 +11,7 @@ use native.Mathlib.Decide.{ℕ-discrete}
 use lib.ListN.{getD, set, replicate, length-set, length-replicate}
 use lib.Seq.{getD-set-same, getD-set-other}
 use borrow.Author.Tests.{not-true, not-false}
+use Rattle.bounds.specs.Bounds.{maxT}
 use Rattle.math.specs.MembersLaws.{∈-upTo, upTo-∈}
 use Rattle.plan.specs.Layout.{layout}
 use Rattle.code.specs.Figures.{Pair, Ruler}
@@ -55,12 +56,12 @@ module _ {n : ℕ} where
   pair-here o a b = record { differ = o; first = a; second = b; before = inr (refl, omega arith) }
 
 module _ {n t : ℕ} {s : List ℕ} where
-  pub marked-start : t ≤ 2048 → Marked n t s 0 0 (replicate 2048 0)
+  pub marked-start : t ≤ maxT → Marked n t s 0 0 (replicate maxT 0)
   marked-start h =
       record {
         long = simp length-replicate h;
         marked = λ k l b. absurd (nothing b);
-        met = λ d m. absurd (m (zero-at 2048 d));
+        met = λ d m. absurd (m (zero-at maxT d));
         distinct = λ k l k' l' b b' e. absurd (nothing b);
       }
     where

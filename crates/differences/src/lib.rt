@@ -1,9 +1,12 @@
 // The ruler rule: all differences p_i - p_j mod t of two sections are distinct. A mark for each difference that was met.
+// Public for the crates above only.
 ghost use mathlib.Core.Path.{_≡_};
 ghost use Prim.Native.Nat.{_≤_, _<_};
 ghost use lib.ListN.{length};
-ghost use Rattle.differences.specs.Sections.{Usable, TwoOf};
+ghost use Rattle.plan.specs.GoodPlan.{GoodPlan};
+ghost use Rattle.differences.specs.Sections.{TwoOf};
 ghost use Rattle.differences.specs.Differences.{differenceOf, Marked, Fresh, RowDone, KeepsRule};
+use plan::Plan;
 
 // (p_i - p_j) mod t, without a division: p_i + t - p_j is below 2t.
 fn difference(t: usize, s: &[u16], i: usize, j: usize) -> usize
@@ -36,7 +39,7 @@ fn mark(t: usize, s: &[u16], i: usize, j: usize, marks: &mut [u8]) -> bool
 
 // Marks the differences of section i to all others; false where one was met before.
 fn mark_row(n: usize, t: usize, s: &[u16], i: usize, marks: &mut [u8]) -> bool
-    requires { ⌜ Usable n t (now s) × (i < n) × Marked n t (now s) i 0 (now marks) ⌝ }
+    requires { ⌜ GoodPlan n t (now s) × (i < n) × Marked n t (now s) i 0 (now marks) ⌝ }
     ensures { λ r. ⌜ RowDone n t (now (s .entry)) i (now (marks .exit)) r ⌝ }
 {
     let mut j = 0;
@@ -51,10 +54,10 @@ fn mark_row(n: usize, t: usize, s: &[u16], i: usize, marks: &mut [u8]) -> bool
 
 // Whether the plan keeps the ruler rule.
 pub fn all_distinct(n: usize, t: usize, s: &[u16]) -> bool
-    requires { ⌜ Usable n t (now s) ⌝ }
+    requires { ⌜ GoodPlan n t (now s) ⌝ }
     ensures { λ r. ⌜ KeepsRule n t (now (s .entry)) r ⌝ }
 {
-    let mut marks = [0u8; 2048];
+    let mut marks = [0u8; Plan::MAX_T];
     let mut i = 0;
     while i < n {
         if !mark_row(n, t, s, i, &mut marks[..]) {

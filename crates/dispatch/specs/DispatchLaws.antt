@@ -4,6 +4,7 @@ use mathlib.Core.Path.{_≡_, sym, subst}
 use mathlib.Core.List.{List, []}
 use Prim.Native.Nat.{ℕ}
 use lib.ListN.{take}
+use Rattle.refusals.specs.declared.Check.the-variants.{Pass}
 use Rattle.commands.specs.declared.Command.{Command}
 use Rattle.commands.specs.declared.Command.the-variants.{NewPlan, SetShift, Straight, Powers, Ruler}
 use Rattle.lines.specs.Lines.{Wrote}
@@ -13,29 +14,29 @@ use Rattle.state.specs.Refusals.{refusalOf}
 use Rattle.act.specs.Acts.{stateOf, Acts}
 use Rattle.act.specs.declared.Held.{Held}
 
-pub refusal-is : (s : State) {c k : Command} → c ≡ k → refusalOf s c ≡ 0 → refusalOf s k ≡ 0
-refusal-is s e r = subst (λ (x : Command). refusalOf s x ≡ 0) e r
+pub refusal-is : (s : State) {c k : Command} → c ≡ k → refusalOf s c ≡ Pass → refusalOf s k ≡ Pass
+refusal-is s e r = subst (λ (x : Command). refusalOf s x ≡ Pass) e r
 
 -- commands that make a plan do not depend on the state
 module _ (s x : State) where
-  pub new-any : (n t : ℕ) → refusalOf s (NewPlan n t) ≡ 0 → refusalOf x (NewPlan n t) ≡ 0
+  pub new-any : (n t : ℕ) → refusalOf s (NewPlan n t) ≡ Pass → refusalOf x (NewPlan n t) ≡ Pass
   unfolding refusalOf
   new-any n t e = e
 
-  pub straight-any : (n t : ℕ) → refusalOf s (Straight n t) ≡ 0 → refusalOf x (Straight n t) ≡ 0
+  pub straight-any : (n t : ℕ) → refusalOf s (Straight n t) ≡ Pass → refusalOf x (Straight n t) ≡ Pass
   unfolding refusalOf
   straight-any n t e = e
 
-  pub powers-any : (n t q : ℕ) → refusalOf s (Powers n t q) ≡ 0 → refusalOf x (Powers n t q) ≡ 0
+  pub powers-any : (n t q : ℕ) → refusalOf s (Powers n t q) ≡ Pass → refusalOf x (Powers n t q) ≡ Pass
   unfolding refusalOf
   powers-any n t q e = e
 
-  pub ruler-any : (n : ℕ) → refusalOf s (Ruler n) ≡ 0 → refusalOf x (Ruler n) ≡ 0
+  pub ruler-any : (n : ℕ) → refusalOf s (Ruler n) ≡ Pass → refusalOf x (Ruler n) ≡ Pass
   unfolding refusalOf
   ruler-any n e = e
 
 -- a shift depends on the plan alone
-pub shift-any : (h : Held) (v m v' m' : List ℕ) (j p : ℕ) → refusalOf (stateOf h v m) (SetShift j p) ≡ 0 → refusalOf (stateOf h v' m') (SetShift j p) ≡ 0
+pub shift-any : (h : Held) (v m v' m' : List ℕ) (j p : ℕ) → refusalOf (stateOf h v m) (SetShift j p) ≡ Pass → refusalOf (stateOf h v' m') (SetShift j p) ≡ Pass
 unfolding refusalOf stateOf
 shift-any h v m v' m' j p e = e
 

@@ -1,8 +1,9 @@
 // A command that is not refused, performed by the function that is its own.
-// Entry: dispatch.
+// Public for the crate job only: dispatch.
 ghost use mathlib.Core.Path.{_≡_};
 ghost use lib.ListN.{length, take};
 ghost use Rattle.lines.specs.Lines.{lineLength, Wrote};
+ghost use Rattle.refusals.specs.declared.Check.the-variants as check;
 ghost use Rattle.state.specs.Refusals.{refusalOf};
 ghost use Rattle.act.specs.Acts.{stateOf, Kept, Acts};
 use act::Held;
@@ -23,7 +24,7 @@ pub fn dispatch(
     line: &mut [u8],
     command: Command,
 ) -> Done
-    requires { ⌜ Kept held (now block) (now marks) × (length (now line) ≡ lineLength) × (refusalOf (stateOf held (now block) (now marks)) command ≡ 0) ⌝ }
+    requires { ⌜ Kept held (now block) (now marks) × (length (now line) ≡ lineLength) × (refusalOf (stateOf held (now block) (now marks)) command ≡ check.Pass) ⌝ }
     ensures { λ r. ⌜ Acts command held (now (block .entry)) (now (marks .entry)) (take (r .count) (now (line .exit))) (r .held) (now (block .exit)) (now (marks .exit)) × Wrote (now (line .entry)) (take (r .count) (now (line .exit))) (now (line .exit)) (r .count) ⌝ }
 {
     match command {

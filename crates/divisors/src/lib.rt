@@ -1,5 +1,6 @@
 // What two sections share is the greatest common divisor of t and the difference of their shifts. The most that is shared,
 // over all pairs and over the neighbours, gives the two figures.
+// Public for the crates above only.
 ghost use mathlib.Core.Path.{_≡_};
 ghost use Prim.Native.Nat.{_-_, _*_, _/_, _≤_, _<_};
 ghost use lib.ListN.{length};

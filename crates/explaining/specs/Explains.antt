@@ -7,6 +7,7 @@ use Prim.Native.Nat.{ℕ, _*_, _<_}
 use lib.ListN.{length, getD}
 use Rattle.plan.specs.Layout.{Layout, Valid, layout}
 use Rattle.plan.specs.declared.Place.{Place}
+use Rattle.plan.specs.GoodPlan.{plan-valid}
 use Rattle.math.specs.Members.{_∈_}
 use Rattle.math.specs.Sums.{xorOver}
 use Rattle.code.specs.Places.{places}
@@ -17,7 +18,6 @@ use Rattle.code.specs.Laws.Balance.{classSum, classSum-component, classSum-ext,
 use Rattle.code.specs.Laws.Labels.{label, componentOf}
 use Rattle.code.specs.Laws.MarksLaws.{erasures-erased}
 use Rattle.tables.specs.Scan as Scan
-use Rattle.tables.specs.Sizes.{sized-valid}
 use Rattle.components.specs.Walks.{Closes, Closed, Labelled, labelled-in}
 use Rattle.components.specs.Shows.{Lent, Shows, Unbalanced, crossed-inconsistent, balanced-imbalance}
 use Rattle.components.specs.declared.walk.Closing.{Closing}
@@ -105,7 +105,7 @@ module _ {n t : ℕ} {shifts marks : List ℕ} (m : Scan.Lent n t shifts marks) 
   loosens-shown {w' = w'} h = record {
     decides = λ v a none.
         subst (λ i. Decides (layout n t shifts) (erasures (layout n t shifts) marks) v (Loose i) v w') (sym (h .counted))
-        (decides-loose (sized-valid (m .sized)) (erasures-erased (layout n t shifts) marks) (h .is-cycle) (h .highest) a (h .written));
+        (decides-loose (plan-valid (m .sized)) (erasures-erased (layout n t shifts) marks) (h .is-cycle) (h .highest) a (h .written));
   }
 
   -- the labels of the rows, and the sums
@@ -126,11 +126,11 @@ module _ {n t : ℕ} {shifts marks : List ℕ} (m : Scan.Lent n t shifts marks) 
         → Explains (layout n t shifts) (erasures (layout n t shifts) marks) sum (Crossed z) w'
     unfolding layout
     labels-crossed shows e =
-        explains-crossed (layout n t shifts) (sized-valid (m .sized)) (erasures-erased (layout n t shifts) marks) labelled (rw e at shows)
+        explains-crossed (layout n t shifts) (plan-valid (m .sized)) (erasures-erased (layout n t shifts) marks) labelled (rw e at shows)
 
     pub labels-loose : {sum w w₁ w' : List ℕ} {a : Rows} {r : Recovery} → Shows t parent sum w w₁ a → a ≡ rows.Balanced
         → Loosens (layout n t shifts) (erasures (layout n t shifts) marks) r w'
         → Explains (layout n t shifts) (erasures (layout n t shifts) marks) sum r w'
     unfolding layout
     labels-loose shows e =
-        explains-loose (layout n t shifts) (sized-valid (m .sized)) (erasures-erased (layout n t shifts) marks) labelled (rw e at shows)
+        explains-loose (layout n t shifts) (plan-valid (m .sized)) (erasures-erased (layout n t shifts) marks) labelled (rw e at shows)

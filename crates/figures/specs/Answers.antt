@@ -4,9 +4,11 @@ use mathlib.Core.Path.{_≡_}
 use mathlib.Core.List.{List, [], _∷_}
 use Prim.Native.Nat.{ℕ}
 use lib.ListN.{getD}
-use Rattle.plan.specs.Plans.{numberOf, layoutOf, verdictOf}
+use Rattle.refusals.specs.Refusals.{numberOf, checkNumber}
+use Rattle.refusals.specs.declared.Refusal.{Refusal}
+use Rattle.plan.specs.Plans.{layoutOf, planCheck}
 use Rattle.plan.specs.declared.Plan.{Plan}
-use Rattle.plan.specs.declared.Verdict.the-variants.{Good, Size, Shift}
+use Rattle.refusals.specs.declared.Check.the-variants.{Pass, Stop}
 use Rattle.code.specs.Figures.{Figures}
 use Rattle.figures.specs.declared.Four.{Four}
 use Rattle.figures.specs.declared.Answer.{Answer}
@@ -19,7 +21,7 @@ pub record Said : Type 0 where
 
 abbrev pub saidBy : Answer → Said
 saidBy (Are f) = record { number = 0; values = f .parity ∷ f .pair ∷ f .neighbour ∷ f .distance ∷ [] }
-saidBy (Not v) = record { number = numberOf v; values = [] }
+saidBy (Not x) = record { number = numberOf x; values = [] }
 
 -- value i of an answer, from 0
 abbrev pub value : Answer → ℕ → ℕ
@@ -27,8 +29,7 @@ value a i = getD (saidBy a .values) i 0
 
 -- the answer for a plan: refusals 1 and 2 of the plan, else its figures
 pub record Answered (p : Plan) (a : Answer) : Type 0 where
-  pub good : verdictOf p ≡ Good → (f : Four) × (a ≡ Are f) × Figures (layoutOf p) (f .parity) (f .pair) (f .neighbour) (f .distance)
-  pub size : verdictOf p ≡ Size → a ≡ Not Size
-  pub shift : verdictOf p ≡ Shift → a ≡ Not Shift
-  pub number : saidBy a .number ≡ numberOf (verdictOf p)
-  pub values : verdictOf p ≡ Good → Figures (layoutOf p) (value a 0) (value a 1) (value a 2) (value a 3)
+  pub good : planCheck p ≡ Pass → (f : Four) × (a ≡ Are f) × Figures (layoutOf p) (f .parity) (f .pair) (f .neighbour) (f .distance)
+  pub refused : (x : Refusal) → planCheck p ≡ Stop x → a ≡ Not x
+  pub number : saidBy a .number ≡ checkNumber (planCheck p)
+  pub values : planCheck p ≡ Pass → Figures (layoutOf p) (value a 0) (value a 1) (value a 2) (value a 3)

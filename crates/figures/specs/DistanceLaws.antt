@@ -12,11 +12,11 @@ use Rattle.math.specs.Gcd.{gcd, gap}
 use Rattle.math.specs.GcdLaws.{gcd-pos, gcd-le, gcd-dvd-left, gcd-dvd-right, gcd-zero-left, gap-comm, gap-self, gap-zero}
 use Rattle.math.specs.Members.{upTo, from}
 use Rattle.math.specs.MembersLaws.{upTo-∈, length-upTo}
+use Rattle.bounds.specs.Bounds.{maxT}
 use Rattle.plan.specs.Layout.{Layout, layout}
+use Rattle.plan.specs.GoodPlan.{GoodPlan, plan-valid}
 use Rattle.code.specs.Figures.{Least, Pair, pairNumber, Capability, NonzeroWeight, EqualShifts, Ruler}
 use Rattle.code.specs.Theorems.{distance-equal, distance-ruler, distance-other, distance-pair}
-use Rattle.differences.specs.Sections.{Usable}
-use Rattle.differences.specs.SectionsLaws.{usable-valid}
 
 -- a pair's number: the same in both orders, at least 2, and 2 exactly where the shifts are equal
 pairNumber-comm : (L : Layout) (i j : ℕ) → pairNumber L i j ≡ pairNumber L j i
@@ -60,10 +60,10 @@ two-sections : (t : ℕ) (s : List ℕ) → layout 2 t s .sections ≡ 0 ∷ 1 �
 unfolding layout upTo from
 two-sections t s = refl
 
-module _ {n t : ℕ} {s : List ℕ} (u : Usable n t s) where
+module _ {n t : ℕ} {s : List ℕ} (u : GoodPlan n t s) where
   positive : 0 < layout n t s .t
   unfolding layout
-  positive = u .size .t-least
+  positive = u .t-min
 
   pair-below : {i j : ℕ} → Pair (layout n t s) i j → (i < n) × (j < n)
   unfolding layout
@@ -79,16 +79,16 @@ module _ {n t : ℕ} {s : List ℕ} (u : Usable n t s) where
 
   three : n ≢ 2 → 3 ≤ length (layout n t s .sections)
   unfolding layout
-  three many = let k = length-upTo n in let l = u .size .n-least in omega arith
+  three many = let k = length-upTo n in let l = u .n-min in omega arith
 
   module _ {pair : ℕ} (least : Least (Capability (layout n t s) (Pair (layout n t s))) pair) where
-    pub pair-fits : pair ≤ 4096
+    pub pair-fits : pair ≤ 2 * maxT
     unfolding layout pairNumber
     pair-fits =
         let h = least .has in
         let v = h .value in
         let d = div-le-self (2 * t) (gcd (gap (getD s (h .i) 0) (getD s (h .j) 0)) t) in
-        let m = u .size .t-most in
+        let m = u .t-max in
         omega arith
 
     pub distance-two : n ≡ 2 → Least (NonzeroWeight (layout n t s)) (pair + 1)
@@ -100,17 +100,17 @@ module _ {n t : ℕ} {s : List ℕ} (u : Usable n t s) where
         let k = only-pair two (h .related) in
         let number : pairNumber L 0 1 ≡ pair + 1 = omega arith in
         subst (λ (x : ℕ). Least (NonzeroWeight L) x) number
-        (distance-pair L (usable-valid u) 0 1 (ap (λ (x : ℕ). layout x t s .sections) two ∙ two-sections t s))
+        (distance-pair L (plan-valid u) 0 1 (ap (λ (x : ℕ). layout x t s .sections) two ∙ two-sections t s))
 
     equal-one : EqualShifts (layout n t s) → pair ≡ 1
     unfolding layout
     equal-one e =
         let L = layout n t s in
-        let two = pairNumber-equal L (e .i) (e .j) (u .size .t-least) (e .equal) in
+        let two = pairNumber-equal L (e .i) (e .j) (u .t-min) (e .equal) in
         let l = least .least (pairNumber L (e .i) (e .j) - 1) (record { i = e .i; j = e .j; related = e .pair; value = refl }) in
         let h = least .has in
         let v = h .value in
-        let m = pairNumber-least L (h .i) (h .j) (u .size .t-least) in
+        let m = pairNumber-least L (h .i) (h .j) (u .t-min) in
         omega arith
 
     pub distance-same : pair ≡ 1 → Least (NonzeroWeight (layout n t s)) 2
@@ -120,13 +120,13 @@ module _ {n t : ℕ} {s : List ℕ} (u : Usable n t s) where
         let h = least .has in
         let b = pair-below (h .related) in
         let v = h .value in
-        let m = pairNumber-least L (h .i) (h .j) (u .size .t-least) in
+        let m = pairNumber-least L (h .i) (h .j) (u .t-min) in
         let two : pairNumber L (h .i) (h .j) ≡ 2 = omega arith in
         let equal = pairNumber-two L (h .i) (h .j) (u .below (h .i) (b .0)) (u .below (h .j) (b .1)) two in
-        distance-equal L (usable-valid u) (record { i = h .i; j = h .j; pair = h .related; equal = equal })
+        distance-equal L (plan-valid u) (record { i = h .i; j = h .j; pair = h .related; equal = equal })
 
     pub distance-else : n ≢ 2 → pair ≢ 1 → ¬ (Ruler (layout n t s)) → Least (NonzeroWeight (layout n t s)) 4
-    distance-else many other breaks = distance-other (layout n t s) (usable-valid u) (three many) (λ e. other (equal-one e)) breaks
+    distance-else many other breaks = distance-other (layout n t s) (plan-valid u) (three many) (λ e. other (equal-one e)) breaks
 
   pub distance-rule : n ≢ 2 → Ruler (layout n t s) → Least (NonzeroWeight (layout n t s)) 6
-  distance-rule many keeps = distance-ruler (layout n t s) (usable-valid u) (three many) keeps
+  distance-rule many keeps = distance-ruler (layout n t s) (plan-valid u) (three many) keeps

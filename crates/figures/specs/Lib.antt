@@ -2,3 +2,4 @@
 pub mod Answers
 pub mod DistanceLaws
 pub mod AnswersLaws
+pub mod Once

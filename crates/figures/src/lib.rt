@@ -1,11 +1,12 @@
 // The four figures of a plan (01, "Families and figures"): check places, pair figure, neighbour figure, distance.
 // Entry: figures.
 ghost use Rattle.plan.specs.Layout.{layout};
+ghost use Rattle.plan.specs.GoodPlan.{GoodPlan};
 ghost use Rattle.code.specs.Figures.{Figures};
 ghost use Rattle.figures.specs.Answers.{Answered};
-ghost use Rattle.differences.specs.Sections.{Usable};
 use plan::Plan;
-use plan::Verdict;
+use refusals::Check;
+use refusals::Refusal;
 
 mod distance;
 mod parity;
@@ -20,7 +21,7 @@ pub struct Four {
 // The figures of a plan, or its refusal.
 pub enum Answer {
     Are(Four),
-    Not(Verdict),
+    Not(Refusal),
 }
 
 pub fn figures(plan: Plan) -> Answer
@@ -29,17 +30,15 @@ pub fn figures(plan: Plan) -> Answer
     let n = plan.n;
     let t = plan.t;
     let s = plan.shifts;
-    match plan.verdict() {
-        Verdict::Good => Answer::Are(of_good(n, t, &s[..])),
-        Verdict::Size => Answer::Not(Verdict::Size),
-        Verdict::Shift => Answer::Not(Verdict::Shift),
-        Verdict::Family => Answer::Not(Verdict::Family),
+    match plan.check() {
+        Check::Pass => Answer::Are(of_good(n, t, &s[..])),
+        Check::Stop(x) => Answer::Not(x),
     }
 }
 
-// The figures of a plan that is not refused.
-fn of_good(n: usize, t: usize, s: &[u16]) -> Four
-    requires { ⌜ Usable n t (now s) ⌝ }
+// The figures of a plan that is not refused. Public for the crates above only.
+pub fn of_good(n: usize, t: usize, s: &[u16]) -> Four
+    requires { ⌜ GoodPlan n t (now s) ⌝ }
     ensures { λ r. ⌜ Figures (layout n t (now (s .entry))) (r .parity) (r .pair) (r .neighbour) (r .distance) ⌝ }
 {
     let all = divisors::of_pairs(n, t, s);

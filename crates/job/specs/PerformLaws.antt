@@ -6,8 +6,8 @@ use mathlib.Core.List.{List, [], _∷_}
 use Prim.Native.Nat.{ℕ}
 use native.Mathlib.Omega.{arith}
 use lib.ListN.{length, getD}
-use Rattle.calls.specs.declared.Refusal.{Refusal}
-use Rattle.calls.specs.declared.Check.the-variants as check
+use Rattle.refusals.specs.declared.Refusal.{Refusal}
+use Rattle.refusals.specs.declared.Check.the-variants as check
 use Rattle.commands.specs.Commands.{sizeOf}
 use Rattle.act.specs.declared.Held.{Held}
 use Rattle.standing.specs.Standing.{heldCheck}

@@ -4,8 +4,8 @@ use mathlib.Core.Path.{_≡_}
 use mathlib.Core.Bool.{Bool}
 use mathlib.Core.List.{List}
 use Prim.Native.Nat.{ℕ}
-use Rattle.calls.specs.declared.Refusal.{Refusal}
-use Rattle.calls.specs.declared.Check.the-variants as check
+use Rattle.refusals.specs.declared.Refusal.{Refusal}
+use Rattle.refusals.specs.declared.Check.the-variants as check
 use Rattle.act.specs.declared.Held.{Held}
 use Rattle.standing.specs.Standing.{heldCheck}
 use Rattle.turns.specs.Turns.{Same, Turns}

@@ -12,14 +12,14 @@ ghost use Rattle.act.specs.Acts.{Kept};
 ghost use Rattle.turns.specs.Turns.{Turns};
 ghost use Rattle.job.specs.Performs.{Performs};
 use act::Held;
-use calls::Check;
 use commands::Command;
 use commands::Parsed;
 use commands::parse;
 use commands::size_of;
 use dispatch::dispatch;
+use refusals::Check;
 use standing::check_held;
-use state::refusals::refusal;
+use state::refusing::refusal;
 use turns::Step;
 use turns::Turn;
 use turns::at_end;
@@ -94,15 +94,16 @@ fn go(
 {
     let planned = held.planned;
     let plan = held.plan;
-    let number = refusal(planned, plan, command);
-    if number != 0 {
-        return stop(held, line, number, offset);
-    }
-    let done = dispatch(held, block, marks, line, command);
-    let after = done.held;
-    let count = done.count;
-    Step {
-        turn: Turn::On(size, count),
-        held: after,
+    match refusal(planned, plan, command) {
+        Check::Stop(x) => stop(held, line, x, offset),
+        Check::Pass => {
+            let done = dispatch(held, block, marks, line, command);
+            let after = done.held;
+            let count = done.count;
+            Step {
+                turn: Turn::On(size, count),
+                held: after,
+            }
+        }
     }
 }

@@ -1,9 +1,11 @@
 // The lines of the sheet, written into a lent buffer: one function per kind of line.
 // Each line stands at the front of the buffer; the answer is its length. What stands past it is kept.
+// Public for the crates above only.
 ghost use mathlib.Core.Path.{_≡_};
 ghost use mathlib.Core.List.{[], _∷_};
-ghost use Prim.Native.Nat.{_≤_};
+ghost use Prim.Native.Nat.{_*_, _≤_};
 ghost use lib.ListN.{length, take};
+ghost use Rattle.bounds.specs.Bounds.{maxT};
 ghost use Rattle.lines.specs.Lines.{lineLength, Wrote};
 ghost use Rattle.lines.specs.Lines.{line as lineOf};
 ghost use Rattle.lines.specs.Lines.{recoveredWord, looseWord, crossedWord, sealedWord, symbolWord, figuresWord, refusedWord, endWord};
@@ -32,7 +34,7 @@ pub fn recovered_line(line: &mut [u8], count: usize) -> usize
 // The count, and the first `count` entries of the list.
 pub fn loose_line(line: &mut [u8], count: usize, list: &[u16]) -> usize
     requires { ⌜ lineLength ≤ length (now line) ⌝ }
-    requires { ⌜ (count ≤ length (now list)) × (count ≤ 4096) ⌝ }
+    requires { ⌜ (count ≤ length (now list)) × (count ≤ 2 * maxT) ⌝ }
     ensures { λ r. ⌜ Wrote (now (line .entry)) (lineOf looseWord (count ∷ take count (now (list .entry)))) (now (line .exit)) r ⌝ }
 {
     listed(line, b"loose", count, list)
@@ -40,7 +42,7 @@ pub fn loose_line(line: &mut [u8], count: usize, list: &[u16]) -> usize
 
 pub fn crossed_line(line: &mut [u8], count: usize, list: &[u16]) -> usize
     requires { ⌜ lineLength ≤ length (now line) ⌝ }
-    requires { ⌜ (count ≤ length (now list)) × (count ≤ 4096) ⌝ }
+    requires { ⌜ (count ≤ length (now list)) × (count ≤ 2 * maxT) ⌝ }
     ensures { λ r. ⌜ Wrote (now (line .entry)) (lineOf crossedWord (count ∷ take count (now (list .entry)))) (now (line .exit)) r ⌝ }
 {
     listed(line, b"crossed", count, list)
@@ -117,7 +119,7 @@ fn two_numbers(line: &mut [u8], word: &[u8], n: u64, m: u64) -> usize
 fn listed(line: &mut [u8], word: &[u8], count: usize, list: &[u16]) -> usize
     requires { ⌜ lineLength ≤ length (now line) ⌝ }
     requires { ⌜ length (now word) ≤ 16 ⌝ }
-    requires { ⌜ (count ≤ length (now list)) × (count ≤ 4096) ⌝ }
+    requires { ⌜ (count ≤ length (now list)) × (count ≤ 2 * maxT) ⌝ }
     ensures { λ r. ⌜ Wrote (now (line .entry)) (lineOf (now (word .entry)) (count ∷ take count (now (list .entry)))) (now (line .exit)) r ⌝ }
 {
     let a = put_word(line, 0, word);

@@ -1,4 +1,5 @@
--- The laws of the greatest common divisor: that `gcd` is one, how it changes with its arguments, and the same of `gcdAll`.
+-- The laws of the greatest common divisor: how `gcd` changes with its arguments, and the same of `gcdAll`. That they are what
+-- their names say (`gcd-is`, `gcdAll-is`) stands beside their definitions, in Gcd.
 -- `gcd-closed` is the one to reach for: what holds of a and b and is closed under subtraction holds of gcd a b.
 -- Last, the multiples of e modulo t: the first t / gcd e t of them are distinct, and then they come round.
 use mathlib.Core.Path.{_≡_, refl, sym, _∙_, ap, subst}
@@ -8,12 +9,9 @@ use Prim.Native.Nat.{ℕ, zero, suc, _+_, _-_, _*_, _/_, _%_, _∣_, _≤_, _<_}
 use native.Mathlib.Omega.{arith}
 use native.Mathlib.Decide.{decLe}
 use native.Mathlib.Nat.{
-  mod-lt,
   mod-add-div',
-  dvd-mod-iff,
   dvd-refl,
   dvd-zero,
-  dvd-trans,
   dvd-antisymm,
   dvd-add,
   dvd-sub,
@@ -29,28 +27,10 @@ use native.Mathlib.Nat.{
   zero-mod,
   dvd-mul-left,
 }
-use Rattle.math.specs.Gcd.{IsGcd, euclid, gcd, gcdAll, gap}
+use Rattle.math.specs.Gcd.{IsGcd, euclid, gcd, gcdAll, gcdAll-is, gap, step-is}
+pub use Rattle.math.specs.Gcd.{gcd-is, gcd-zero-left}
 use Rattle.math.specs.Members.{_∈_}
 use Rattle.math.specs.Residues.{mod-cancel-left, below-multiples}
-
-step-is : (a b g : ℕ) → IsGcd b (a % b) g → IsGcd a b g
-step-is a b g h =
-    record {
-      left = dvd-mod-iff g (h .left) .0 (h .right);
-      right = h .left;
-      greatest = λ d p q. h .greatest d q (dvd-mod-iff d q .1 p);
-    }
-
-euclid-is : (fuel a b : ℕ) → b < fuel → IsGcd a b (euclid fuel a b)
-unfolding euclid
-euclid-is zero a b h = absurd (omega arith)
-euclid-is (suc fuel) a zero h = record { left = dvd-refl a; right = dvd-zero a; greatest = λ d p q. p }
-euclid-is (suc fuel) a (suc b) h =
-    step-is a (suc b) _ (euclid-is fuel (suc b) (a % suc b) (let r : a % suc b < suc b = mod-lt a (omega arith) in omega arith))
-
-pub gcd-is : (a b : ℕ) → IsGcd a b (gcd a b)
-unfolding gcd
-gcd-is a b = euclid-is (suc b) a b (omega arith)
 
 pub gcd-unique : {a b g h : ℕ} → IsGcd a b g → IsGcd a b h → g ≡ h
 gcd-unique {a} {b} {g} {h} p q = dvd-antisymm (q .greatest g (p .left) (p .right)) (p .greatest h (q .left) (q .right))
@@ -84,9 +64,6 @@ gcd-dvd d {b} h = gcd-eq (record { left = dvd-refl d; right = h; greatest = λ c
 
 pub gcd-zero-right : (t : ℕ) → gcd t 0 ≡ t
 gcd-zero-right t = gcd-dvd t (dvd-zero t)
-
-pub gcd-zero-left : (t : ℕ) → gcd 0 t ≡ t
-gcd-zero-left t = gcd-comm 0 t ∙ gcd-zero-right t
 
 pub gcd-self : (t : ℕ) → gcd t t ≡ t
 gcd-self t = gcd-dvd t (dvd-refl t)
@@ -171,19 +148,13 @@ gcd-gap a {b} {t} h = by-cases (decLe b a) above below
         rw (e, gap-comm a b, gap-of-le l) (sym (gcd-complement m))
 
 pub gcdAll-dvd-base : (t : ℕ) (l : List ℕ) → gcdAll t l ∣ t
-unfolding gcdAll
-gcdAll-dvd-base t [] = dvd-refl t
-gcdAll-dvd-base t (x ∷ xs) = dvd-trans (gcd x (gcdAll t xs)) (gcd-dvd-right x (gcdAll t xs)) (gcdAll-dvd-base t xs)
+gcdAll-dvd-base t l = gcdAll-is t l .base
 
 pub gcdAll-dvd : (t : ℕ) {x : ℕ} {l : List ℕ} → x ∈ l → gcdAll t l ∣ x
-unfolding gcdAll
-gcdAll-dvd t (List·Memᴰ·head {x = y} {xs = ys} e) = subst (λ z. gcd y (gcdAll t ys) ∣ z) (sym e) (gcd-dvd-left y (gcdAll t ys))
-gcdAll-dvd t (List·Memᴰ·tail {x = y} {xs = ys} m) = dvd-trans (gcd y (gcdAll t ys)) (gcd-dvd-right y (gcdAll t ys)) (gcdAll-dvd t m)
+gcdAll-dvd t {x} {l} m = gcdAll-is t l .each x m
 
 pub gcdAll-greatest : (d : ℕ) {t : ℕ} (l : List ℕ) → d ∣ t → ((x : ℕ) → x ∈ l → d ∣ x) → d ∣ gcdAll t l
-unfolding gcdAll
-gcdAll-greatest d [] h all = h
-gcdAll-greatest d (x ∷ xs) h all = gcd-greatest d (all x (List·Memᴰ·head refl)) (gcdAll-greatest d xs h (λ y m. all y (List·Memᴰ·tail m)))
+gcdAll-greatest d {t} l = gcdAll-is t l .greatest d
 
 pub gcdAll-unique : {t : ℕ} (l : List ℕ) {g : ℕ} → g ∣ t → ((x : ℕ) → x ∈ l → g ∣ x) → ((d : ℕ) → d ∣ t → ((x : ℕ) → x ∈ l → d ∣ x) → d ∣ g) → g ≡ gcdAll t l
 gcdAll-unique {t} l {g} base all best =

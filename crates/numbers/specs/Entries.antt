@@ -5,14 +5,11 @@ use mathlib.Core.Path.{_≡_}
 use mathlib.Core.Logic.{_≢_}
 use mathlib.Core.List.{List}
 use Prim.Native.Nat.{ℕ}
-use Rattle.plan.specs.Plans.{numberOf, layoutOf, verdictOf}
+use Rattle.refusals.specs.Refusals.{checkNumber}
+use Rattle.plan.specs.Plans.{layoutOf, planCheck}
 use Rattle.plan.specs.declared.Plan.{Plan}
 use Rattle.plan.specs.declared.Made.{Made as PlanMade}
-use Rattle.plan.specs.declared.Count.{Count}
-use Rattle.plan.specs.declared.Count.the-variants.{Is, Not}
 use Rattle.code.specs.Figures.{Figures}
-use Rattle.calls.specs.declared.Counted.{Counted}
-use Rattle.calls.specs.declared.Counted.the-variants as counted
 use Rattle.promises.specs.Answers.{recoveryNumber, recoveryCount, encodingNumber, readingNumber}
 use Rattle.promises.specs.Promises.{Recovers, Encodes, Reads}
 use Rattle.promises.specs.declared.Recovery.{Recovery}
@@ -22,27 +19,13 @@ use Rattle.numbers.specs.declared.Made.{Made}
 
 -- fumizhaki_plan_of, _straight, _powers, _ruler: the constructor's answer by its number, with its plan; a refusal's plan is all zeros
 unfoldable pub numbered : PlanMade → Made
-numbered m = record { answer = numberOf (m .answer); plan = m .plan }
+numbered m = record { answer = checkNumber (m .answer); plan = m .plan }
 
--- fumizhaki_message_count: the refusal's number and 0, else 0 and the message count
-abbrev pub messageNumber : Count → ℕ
-messageNumber (Is k) = 0
-messageNumber (Not v) = numberOf v
-
-abbrev pub messageValue : Count → ℕ
-messageValue (Is k) = k
-messageValue (Not v) = 0
-
--- fumizhaki_figures: the number of the plan's verdict, and the figures; all four are 0 where the plan is refused
+-- fumizhaki_figures: the number of what refuses the plan, and the figures; all four are 0 where the plan is refused
 pub record FiguresOut (p : Plan) (number parity pair neighbour distance : ℕ) : Type 0 where
-  pub number-is : number ≡ numberOf (verdictOf p)
+  pub number-is : number ≡ checkNumber (planCheck p)
   pub figures-are : number ≡ 0 → Figures (layoutOf p) parity pair neighbour distance
   pub refused-zeros : number ≢ 0 → (parity ≡ 0) × (pair ≡ 0) × (neighbour ≡ 0) × (distance ≡ 0)
-
--- fumizhaki_erasure_count: its number is countedNumber of the answer; the number of marked places, 0 where the call is refused
-abbrev pub countedValue : Counted → ℕ
-countedValue (counted.Marks z) = z
-countedValue (counted.Refused x) = 0
 
 -- fumizhaki_recover: the number of an answer that keeps recover's promise, and its count, which is 0 unless the number is 5 or 6
 pub record RecoverOut (p : Plan) (v m w : List ℕ) (number count : ℕ) (v' w' : List ℕ) : Type 0 where

@@ -3,7 +3,7 @@
 use mathlib.Core.Path.{_≡_}
 use mathlib.Core.Logic.{_↔_, _≢_}
 use mathlib.Core.List.{List, [], _∷_}
-use Prim.Native.Nat.{ℕ, _*_, _≤_}
+use Prim.Native.Nat.{ℕ, _*_, _≤_, _<_}
 use lib.ListN.{length, replicate}
 use Rattle.math.specs.Members.{_∈_}
 use Rattle.math.specs.Padded.{padded}
@@ -15,9 +15,10 @@ use Rattle.code.specs.Marks.{erasures}
 use Rattle.code.specs.Cycles.{Cycle}
 use Rattle.code.specs.Components.{Inconsistent}
 use Rattle.code.specs.Messages.{Carries}
-use Rattle.calls.specs.Calls.{checkOf, refusalNumber}
-use Rattle.calls.specs.declared.Refusal.{Refusal}
-use Rattle.calls.specs.declared.Check.the-variants.{Pass, Stop}
+use Rattle.refusals.specs.Refusals.{numberOf}
+use Rattle.calls.specs.Calls.{checkOf}
+use Rattle.refusals.specs.declared.Refusal.{Refusal}
+use Rattle.refusals.specs.declared.Check.the-variants.{Pass, Stop}
 use Rattle.promises.specs.Promises.{recoverLent, messageLent}
 
 -- a codeword equals the block at every unmarked place
@@ -27,8 +28,8 @@ AgreesWith p v m = Agrees (layoutOf p) (erasures (layoutOf p) m) v
 pub record RecoverMeans (p : Plan) (v m w : List ℕ) (number count : ℕ) (v' w' : List ℕ) : Type 0 where
   pub numbers : number ∈ (0 ∷ 1 ∷ 2 ∷ 3 ∷ 4 ∷ 5 ∷ 6 ∷ [])
   -- 1 to 4: what refuses the call; block and witness kept, count 0
-  pub refused-when : (x : Refusal) → (number ≡ refusalNumber x) ↔ (checkOf p (recoverLent v m w) m ≡ Stop x)
-  pub refused-leaves : (x : Refusal) → number ≡ refusalNumber x → (count ≡ 0) × (v' ≡ v) × (w' ≡ w)
+  pub refused-when : (x : Refusal) → numberOf x < 5 → (number ≡ numberOf x) ↔ (checkOf p (recoverLent v m w) m ≡ Stop x)
+  pub refused-leaves : (x : Refusal) → numberOf x < 5 → number ≡ numberOf x → (count ≡ 0) × (v' ≡ v) × (w' ≡ w)
   -- 0: exactly one codeword agrees, and the block is that codeword; the witness list is all zeros, the count 0
   pub zero-when : (number ≡ 0) ↔ ((checkOf p (recoverLent v m w) m ≡ Pass) × Single (AgreesWith p v m))
   pub zero-leaves : number ≡ 0 → (count ≡ 0) × AgreesWith p v m v' × (w' ≡ replicate (2 * p .t) 0)
@@ -48,7 +49,7 @@ pub record RecoverMeans (p : Plan) (v m w : List ℕ) (number count : ℕ) (v' w
 pub record EncodeMeans (p : Plan) (d v : List ℕ) (number : ℕ) (v' : List ℕ) : Type 0 where
   pub numbers : number ∈ (0 ∷ 1 ∷ 2 ∷ 3 ∷ 11 ∷ [])
   -- 1 to 3: what refuses the call
-  pub refused-when : (x : Refusal) → (number ≡ refusalNumber x) ↔ (checkOf p (messageLent d v) [] ≡ Stop x)
+  pub refused-when : (x : Refusal) → numberOf x < 5 → (number ≡ numberOf x) ↔ (checkOf p (messageLent d v) [] ≡ Stop x)
   -- 0: the block is the one codeword that carries the message
   pub zero-when : (number ≡ 0) ↔ ((checkOf p (messageLent d v) [] ≡ Pass) × Single (λ x. Carries (layoutOf p) x d))
   pub zero-leaves : number ≡ 0 → Carries (layoutOf p) v' d
@@ -60,7 +61,7 @@ pub record EncodeMeans (p : Plan) (d v : List ℕ) (number : ℕ) (v' : List ℕ
 pub record MessageMeans (p : Plan) (v d : List ℕ) (number : ℕ) (d' : List ℕ) : Type 0 where
   pub numbers : number ∈ (0 ∷ 1 ∷ 2 ∷ 3 ∷ 5 ∷ [])
   -- 1 to 3: what refuses the call
-  pub refused-when : (x : Refusal) → (number ≡ refusalNumber x) ↔ (checkOf p (messageLent d v) [] ≡ Stop x)
+  pub refused-when : (x : Refusal) → numberOf x < 5 → (number ≡ numberOf x) ↔ (checkOf p (messageLent d v) [] ≡ Stop x)
   -- 0: the block is a codeword, and the message buffer has the message that it carries
   pub zero-when : (number ≡ 0) ↔ ((checkOf p (messageLent d v) [] ≡ Pass) × Codeword (layoutOf p) v)
   pub zero-leaves : number ≡ 0 → Carries (layoutOf p) v d'

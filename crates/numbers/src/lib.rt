@@ -1,12 +1,10 @@
 // Answers as numbers of document 01's table, their values through out parameters: the work of the C entry points that is no recovery and no sealing.
 // What each C entry promises is in specs/Entries.antt. Public for the crate capi only.
 ghost use mathlib.Core.Path.{_≡_};
-ghost use Rattle.plan.specs.Plans.{messageCountOf};
-ghost use Rattle.calls.specs.Calls.{countedOf, countedNumber};
-ghost use Rattle.numbers.specs.Entries.{numbered, messageNumber, messageValue, countedValue, FiguresOut};
-use calls::Counted;
+ghost use Rattle.plan.specs.Plans.{countNumber, countValue, messageCountOf};
+ghost use Rattle.calls.specs.Calls.{countedOf};
+ghost use Rattle.numbers.specs.Entries.{numbered, FiguresOut};
 use figures::Answer;
-use plan::Count;
 use plan::Plan;
 
 // A constructor's answer by its number, with the plan beside it; a refusal makes none, and the record is all zeros.
@@ -28,19 +26,12 @@ pub fn number_made(made: plan::Made) -> Made
 }
 
 pub fn number_message_count(plan: Plan, count: &mut usize) -> u8
-    ensures { λ r. ⌜ r ≡ messageNumber (messageCountOf plan) ⌝ }
-    ensures { λ _. ⌜ now (count .exit) ≡ messageValue (messageCountOf plan) ⌝ }
+    ensures { λ r. ⌜ r ≡ countNumber (messageCountOf plan) ⌝ }
+    ensures { λ _. ⌜ now (count .exit) ≡ countValue (messageCountOf plan) ⌝ }
 {
-    match plan.message_count() {
-        Count::Is(k) => {
-            *count = k;
-            0
-        }
-        Count::Not(v) => {
-            *count = 0;
-            v.number()
-        }
-    }
+    let answer = plan.message_count();
+    *count = answer.value();
+    answer.number()
 }
 
 pub fn number_figures(
@@ -60,28 +51,21 @@ pub fn number_figures(
             *distance = f.distance;
             0
         }
-        Answer::Not(v) => {
+        Answer::Not(x) => {
             *parity = 0;
             *pair = 0;
             *neighbour = 0;
             *distance = 0;
-            v.number()
+            x.number()
         }
     }
 }
 
 pub fn number_erasure_count(plan: Plan, marks: &[u8], count: &mut usize) -> u8
-    ensures { λ r. ⌜ r ≡ countedNumber (countedOf plan (now (marks .entry))) ⌝ }
-    ensures { λ _. ⌜ now (count .exit) ≡ countedValue (countedOf plan (now (marks .entry))) ⌝ }
+    ensures { λ r. ⌜ r ≡ countNumber (countedOf plan (now (marks .entry))) ⌝ }
+    ensures { λ _. ⌜ now (count .exit) ≡ countValue (countedOf plan (now (marks .entry))) ⌝ }
 {
-    match calls::erasure_count(plan, marks) {
-        Counted::Marks(z) => {
-            *count = z;
-            0
-        }
-        Counted::Refused(x) => {
-            *count = 0;
-            x.number()
-        }
-    }
+    let answer = calls::erasure_count(plan, marks);
+    *count = answer.value();
+    answer.number()
 }

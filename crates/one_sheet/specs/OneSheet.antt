@@ -6,7 +6,8 @@ use mathlib.Core.List.{List, [], _++_}
 use Prim.Native.Nat.{ℕ, _+_}
 use native.Mathlib.Omega.{arith}
 use lib.ListN.{drop, getD}
-use Rattle.commands.specs.Commands.{sizeOf, parsed, unknownNumber, shortNumber}
+use Rattle.refusals.specs.declared.Check.the-variants.{Pass}
+use Rattle.commands.specs.Commands.{sizeOf, parsed, parsedCheck}
 use Rattle.commands.specs.declared.Command.{Command}
 use Rattle.commands.specs.declared.Parsed.the-variants.{Whole, Unknown, Short, Nothing}
 use Rattle.lines.specs.Lines.{line, endWord}
@@ -32,21 +33,21 @@ sheet-ends (short f) e = absurd (zero-one (cc))
 sheet-ends (refused c f n) e = absurd (zero-one (cc))
 sheet-ends (goes-on s' text rest c f z m t) e = absurd (zero-one (cc))
 
-pub sheet-unknown : {o : ℕ} {s : State} {b y : List ℕ} → Sheet o s b y → parsed b ≡ Unknown → y ≡ refusedLine unknownNumber o
+pub sheet-unknown : {o : ℕ} {s : State} {b y : List ℕ} → Sheet o s b y → parsed b ≡ Unknown → y ≡ refusedLine (parsedCheck Unknown) o
 sheet-unknown ends e = let f = nothing in absurd (zero-one (cc))
 sheet-unknown (unknown f) e = refl
 sheet-unknown (short f) e = absurd (zero-one (cc))
 sheet-unknown (refused c f n) e = absurd (zero-one (cc))
 sheet-unknown (goes-on s' text rest c f z m t) e = absurd (zero-one (cc))
 
-pub sheet-short : {o : ℕ} {s : State} {b y : List ℕ} → Sheet o s b y → parsed b ≡ Short → y ≡ refusedLine shortNumber o
+pub sheet-short : {o : ℕ} {s : State} {b y : List ℕ} → Sheet o s b y → parsed b ≡ Short → y ≡ refusedLine (parsedCheck Short) o
 sheet-short ends e = let f = nothing in absurd (zero-one (cc))
 sheet-short (unknown f) e = absurd (zero-one (cc))
 sheet-short (short f) e = refl
 sheet-short (refused c f n) e = absurd (zero-one (cc))
 sheet-short (goes-on s' text rest c f z m t) e = absurd (zero-one (cc))
 
-pub sheet-refused : {o : ℕ} {s : State} {b y : List ℕ} (d : Command) → Sheet o s b y → parsed b ≡ Whole d → refusalOf s d ≢ 0 → y ≡ refusedLine (refusalOf s d) o
+pub sheet-refused : {o : ℕ} {s : State} {b y : List ℕ} (d : Command) → Sheet o s b y → parsed b ≡ Whole d → refusalOf s d ≢ Pass → y ≡ refusedLine (refusalOf s d) o
 sheet-refused d ends e k = let f = nothing in absurd (zero-one (cc))
 sheet-refused d (unknown f) e k = absurd (zero-one (cc))
 sheet-refused d (short f) e k = absurd (zero-one (cc))
@@ -62,7 +63,7 @@ pub record Goes (o : ℕ) (s : State) (b : List ℕ) (c : Command) (y : List ℕ
   pub follows : Sheet (o + sizeOf (getD b 0 0)) state (drop (sizeOf (getD b 0 0)) b) rest
   pub parts : y ≡ text ++ rest
 
-pub sheet-goes : {o : ℕ} {s : State} {b y : List ℕ} (d : Command) → Sheet o s b y → parsed b ≡ Whole d → refusalOf s d ≡ 0 → Goes o s b d y
+pub sheet-goes : {o : ℕ} {s : State} {b y : List ℕ} (d : Command) → Sheet o s b y → parsed b ≡ Whole d → refusalOf s d ≡ Pass → Goes o s b d y
 sheet-goes d ends e k = let f = nothing in absurd (zero-one (cc))
 sheet-goes d (unknown f) e k = absurd (zero-one (cc))
 sheet-goes d (short f) e k = absurd (zero-one (cc))

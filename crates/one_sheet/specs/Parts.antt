@@ -5,11 +5,13 @@ use mathlib.Core.Logic.{_⊎_, inl, inr, ⊎-elim, _≢_, _↔_, by-cases}
 use mathlib.Core.Bool.{Bool, true, false}
 use mathlib.Core.List.{List, [], _∷_, _++_, append-assoc, append-nil}
 use Prim.Native.Nat.{ℕ, zero, suc, _+_, _-_, _<_}
-use native.Mathlib.Decide.{ℕ-discrete}
 use native.Mathlib.Omega.{arith}
 use lib.ListN.{length, getD, take, drop, replicate, length-append, length-drop, length-replicate, List·getD-append}
 use lib.Seq.{drop-append-le}
-use Rattle.commands.specs.Commands.{sizeOf, parsed, unknownNumber, shortNumber}
+use Rattle.refusals.specs.declared.Refusal.{Refusal}
+use Rattle.refusals.specs.RefusalLaws.{decPass}
+use Rattle.refusals.specs.declared.Check.the-variants.{Pass}
+use Rattle.commands.specs.Commands.{sizeOf, parsed, parsedCheck}
 use Rattle.commands.specs.CommandLaws as commands
 use Rattle.commands.specs.declared.Command.{Command}
 use Rattle.commands.specs.declared.Parsed.{Parsed}
@@ -50,12 +52,12 @@ module _ {h : Held} {v m l a : List ℕ} {o : ℕ} {turn : Turn} {h' : Held} {v'
           let g = t .unknown e in
           inr (λ b last. on-unknown (parsed-prefix a b (λ q. zero-one (cc)) (λ q. zero-one (cc)) ∙ e) (g .0) (g .1))
       go (Whole c) e =
-          by-cases (ℕ-discrete (refusalOf (stateOf h v m) c) 0)
+          by-cases (decPass (refusalOf (stateOf h v m) c))
           (λ z. inr (λ b last.
           on-acts c (sizeOf (getD a 0 0)) (parsed-prefix a b (λ q. zero-one (cc)) (λ q. zero-one (cc)) ∙ e)
           (ap sizeOf (sym (first-same a b (omega (arith, whole-size a c e))))) z (t .goes-on c e z)))
           (λ n. let g = t .refused c e n in
-          inr (λ b last. on-refused c (refusalOf (stateOf h v m) c) (parsed-prefix a b (λ q. zero-one (cc)) (λ q. zero-one (cc)) ∙ e) refl n (g .0) (g .1)))
+          inr (λ b last. on-refused c (parsed-prefix a b (λ q. zero-one (cc)) (λ q. zero-one (cc)) ∙ e) refl n (g .0) (g .1)))
 
 -- ---- a job in parts
 
@@ -68,11 +70,11 @@ pub data Fed : ℕ → State → List ℕ → List (List ℕ) → List ℕ → T
   more : {o : ℕ} {s : State} {hand : List ℕ} {text : List ℕ} (part : List ℕ) (parts : List (List ℕ)) → (parsed hand ≡ Nothing) ⊎ (parsed hand ≡ Short) →
       Fed o s (hand ++ part) parts text → Fed o s hand (part ∷ parts) text
   ends : {o : ℕ} {s : State} {hand : List ℕ} → parsed hand ≡ Nothing → Fed o s hand [] (line endWord [])
-  unknown : {o : ℕ} {s : State} {hand : List ℕ} {parts : List (List ℕ)} → parsed hand ≡ Unknown → Fed o s hand parts (refusedLine unknownNumber o)
-  short : {o : ℕ} {s : State} {hand : List ℕ} → parsed hand ≡ Short → Fed o s hand [] (refusedLine shortNumber o)
-  refused : {o : ℕ} {s : State} {hand : List ℕ} {parts : List (List ℕ)} (c : Command) → parsed hand ≡ Whole c → refusalOf s c ≢ 0 →
+  unknown : {o : ℕ} {s : State} {hand : List ℕ} {parts : List (List ℕ)} → parsed hand ≡ Unknown → Fed o s hand parts (refusedLine (parsedCheck Unknown) o)
+  short : {o : ℕ} {s : State} {hand : List ℕ} → parsed hand ≡ Short → Fed o s hand [] (refusedLine (parsedCheck Short) o)
+  refused : {o : ℕ} {s : State} {hand : List ℕ} {parts : List (List ℕ)} (c : Command) → parsed hand ≡ Whole c → refusalOf s c ≢ Pass →
       Fed o s hand parts (refusedLine (refusalOf s c) o)
-  goes-on : {o : ℕ} {s : State} {hand : List ℕ} {parts : List (List ℕ)} (s' : State) (text rest : List ℕ) (c : Command) → parsed hand ≡ Whole c → refusalOf s c ≡ 0 →
+  goes-on : {o : ℕ} {s : State} {hand : List ℕ} {parts : List (List ℕ)} (s' : State) (text rest : List ℕ) (c : Command) → parsed hand ≡ Whole c → refusalOf s c ≡ Pass →
       Means c s s' text → Fed (o + sizeOf (getD hand 0 0)) s' (drop (sizeOf (getD hand 0 0)) hand) parts rest → Fed o s hand parts (text ++ rest)
 
 -- however the job is cut, its lines are a sheet of the whole
@@ -81,7 +83,7 @@ unfolding joined
 fed-sheet {o} {s} {hand} {parts = ps} {text} (more part parts w f) = subst (λ b. Sheet o s b text) (append-assoc hand part (joined parts)) (fed-sheet f)
 fed-sheet {o} {s} {hand} (ends e) = subst (λ b. Sheet o s b (line endWord [])) (sym (append-nil hand ∙ nothing-empty hand e)) sheets.ends
 fed-sheet {o} {s} {hand} {parts} (unknown e) = sheets.unknown (parsed-prefix hand (joined parts) (λ q. zero-one (cc)) (λ q. zero-one (cc)) ∙ e)
-fed-sheet {o} {s} {hand} (short e) = subst (λ b. Sheet o s b (refusedLine shortNumber o)) (sym (append-nil hand)) (sheets.short e)
+fed-sheet {o} {s} {hand} (short e) = subst (λ b. Sheet o s b (refusedLine (parsedCheck Short) o)) (sym (append-nil hand)) (sheets.short e)
 fed-sheet {o} {s} {hand} {parts} (refused c e n) = sheets.refused c (parsed-prefix hand (joined parts) (λ q. zero-one (cc)) (λ q. zero-one (cc)) ∙ e) n
 fed-sheet {o} {s} {hand} {parts} (goes-on s' text rest c e z m f) =
     let w = whole-size hand c e in
@@ -117,7 +119,7 @@ feed-short : (n : ℕ) → Feeds n → {o : ℕ} {s : State} {text : List ℕ} (
 feed-short n ih {o} {s} hand [] e less t = subst (Fed o s hand []) (sym (sheet-short (feed-end hand t) e)) (short e)
 feed-short n ih hand (part ∷ parts) e less t = feed-more n ih hand part parts (inr e) less t
 
-feed-goes : (n : ℕ) → Feeds n → {o : ℕ} {s : State} {text : List ℕ} (hand : List ℕ) (parts : List (List ℕ)) (c : Command) → parsed hand ≡ Whole c → refusalOf s c ≡ 0 →
+feed-goes : (n : ℕ) → Feeds n → {o : ℕ} {s : State} {text : List ℕ} (hand : List ℕ) (parts : List (List ℕ)) (c : Command) → parsed hand ≡ Whole c → refusalOf s c ≡ Pass →
     length (hand ++ joined parts) + length parts < suc n → Goes o s (hand ++ joined parts) c text → Fed o s hand parts text
 feed-goes n ih {o} {s} hand parts c e z less g =
     let w = whole-size hand c e in
@@ -143,7 +145,7 @@ feed-step n ih {o} {s} {text} hand parts less t = go (parsed hand) refl
         subst (Fed o s hand parts) (sym (sheet-unknown t p)) (unknown e)
     go (Whole c) e =
         let p : parsed (hand ++ joined parts) ≡ Whole c = parsed-prefix hand (joined parts) (λ q. zero-one (cc)) (λ q. zero-one (cc)) ∙ e in
-        by-cases (ℕ-discrete (refusalOf s c) 0)
+        by-cases (decPass (refusalOf s c))
         (λ z. feed-goes n ih hand parts c e z less (sheet-goes c t p z))
         (λ k. subst (Fed o s hand parts) (sym (sheet-refused c t p k)) (refused c e k))
 
@@ -166,12 +168,12 @@ module _ {h : Held} {v m l hand : List ℕ} {o : ℕ} {turn : Turn} {h' : Held} 
       go Short e = more part parts (inr e) f
       go Unknown e = let g = t .unknown e .0 .stopped in absurd (zero-one (cc))
       go (Whole c) e =
-          by-cases (ℕ-discrete (refusalOf (stateOf h v m) c) 0)
+          by-cases (decPass (refusalOf (stateOf h v m) c))
           (λ z. let g = t .goes-on c e z .on in absurd (zero-one (cc)))
           (λ n. let g = t .refused c e n .0 .stopped in absurd (zero-one (cc)))
 
-  pub fed-stop : Turns h v m l hand false o turn h' v' m' l' → (count : ℕ) → turn ≡ Stop count → (parts : List (List ℕ)) → Fed o (stateOf h v m) hand parts (take count l')
-  fed-stop t count w parts = go (parsed hand) refl
+  pub fed-stop : Turns h v m l hand false o turn h' v' m' l' → (x : Refusal) (count : ℕ) → turn ≡ Stop x count → (parts : List (List ℕ)) → Fed o (stateOf h v m) hand parts (take count l')
+  fed-stop t y count w parts = go (parsed hand) refl
     where
       go : (p : Parsed) → parsed hand ≡ p → Fed o (stateOf h v m) hand parts (take count l')
       go Nothing e = let g = t .nothing-yet e refl .0 in absurd (zero-one (cc))
@@ -182,7 +184,7 @@ module _ {h : Held} {v m l hand : List ℕ} {o : ℕ} {turn : Turn} {h' : Held} 
           let k : count ≡ g .count = cc in
           subst (Fed o (stateOf h v m) hand parts) (sym (ap (λ x. take x l') k ∙ g .wrote .text-stands)) (unknown e)
       go (Whole c) e =
-          by-cases (ℕ-discrete (refusalOf (stateOf h v m) c) 0)
+          by-cases (decPass (refusalOf (stateOf h v m) c))
           (λ z. let g = t .goes-on c e z .on in absurd (zero-one (cc)))
           (λ n.
           let g = t .refused c e n .0 in
@@ -207,7 +209,7 @@ module _ {h : Held} {v m l hand : List ℕ} {o : ℕ} {turn : Turn} {h' : Held} 
       go Short e = absurd (cut-by last refl e)
       go Unknown e = let g = t .unknown e .0 .stopped in absurd (zero-one (cc))
       go (Whole c) e =
-          by-cases (ℕ-discrete (refusalOf (stateOf h v m) c) 0)
+          by-cases (decPass (refusalOf (stateOf h v m) c))
           (λ z.
           let g = t .goes-on c e z in
           let q = g .on in
@@ -218,32 +220,32 @@ module _ {h : Held} {v m l hand : List ℕ} {o : ℕ} {turn : Turn} {h' : Held} 
           (λ n. let g = t .refused c e n .0 .stopped in absurd (zero-one (cc)))
 
   -- the close, when no more parts come
-  pub fed-last : Turns h v m l hand true o turn h' v' m' l' → (count : ℕ) → (turn ≡ End count) ⊎ (turn ≡ Stop count) → Fed o (stateOf h v m) hand [] (take count l')
+  pub fed-last : Turns h v m l hand true o turn h' v' m' l' → (count : ℕ) → (turn ≡ End count) ⊎ ((x : Refusal) × (turn ≡ Stop x count)) → Fed o (stateOf h v m) hand [] (take count l')
   fed-last t count w = go (parsed hand) refl
     where
       go : (p : Parsed) → parsed hand ≡ p → Fed o (stateOf h v m) hand [] (take count l')
       go Nothing e =
           let g = t .ends e refl .0 in
           let q = g .ended in
-          let k : count ≡ g .count = ⊎-elim (λ y. cc) (λ y. absurd (zero-one (cc))) w in
+          let k : count ≡ g .count = ⊎-elim (λ y. cc) (λ y. let z = y .1 in absurd (zero-one (cc))) w in
           subst (Fed o (stateOf h v m) hand []) (sym (ap (λ x. take x l') k ∙ g .wrote .text-stands)) (ends e)
       go Short e =
           let g = t .short e refl .0 in
           let q = g .stopped in
-          let k : count ≡ g .count = ⊎-elim (λ y. absurd (zero-one (cc))) (λ y. cc) w in
+          let k : count ≡ g .count = ⊎-elim (λ y. absurd (zero-one (cc))) (λ y. let z = y .1 in cc) w in
           subst (Fed o (stateOf h v m) hand []) (sym (ap (λ x. take x l') k ∙ g .wrote .text-stands)) (short e)
       go Unknown e =
           let g = t .unknown e .0 in
           let q = g .stopped in
-          let k : count ≡ g .count = ⊎-elim (λ y. absurd (zero-one (cc))) (λ y. cc) w in
+          let k : count ≡ g .count = ⊎-elim (λ y. absurd (zero-one (cc))) (λ y. let z = y .1 in cc) w in
           subst (Fed o (stateOf h v m) hand []) (sym (ap (λ x. take x l') k ∙ g .wrote .text-stands)) (unknown e)
       go (Whole c) e =
-          by-cases (ℕ-discrete (refusalOf (stateOf h v m) c) 0)
-          (λ z. let g = t .goes-on c e z .on in absurd (⊎-elim (λ y. zero-one (cc)) (λ y. zero-one (cc)) w))
+          by-cases (decPass (refusalOf (stateOf h v m) c))
+          (λ z. let g = t .goes-on c e z .on in absurd (⊎-elim (λ y. zero-one (cc)) (λ y. let z = y .1 in zero-one (cc)) w))
           (λ n.
           let g = t .refused c e n .0 in
           let q = g .stopped in
-          let k : count ≡ g .count = ⊎-elim (λ y. absurd (zero-one (cc))) (λ y. cc) w in
+          let k : count ≡ g .count = ⊎-elim (λ y. absurd (zero-one (cc))) (λ y. let z = y .1 in cc) w in
           subst (Fed o (stateOf h v m) hand []) (sym (ap (λ x. take x l') k ∙ g .wrote .text-stands)) (refused c e n))
 
 -- ---- when a turn waits
@@ -290,6 +292,6 @@ waits-exactly {h} {v} {m} {l} {b} {last} {o} {turn} {h'} {v'} {m'} {l'} t =
     which Short e w = prefix-short b e
     which Unknown e w = let g = t .unknown e .0 .stopped in absurd (zero-one (cc))
     which (Whole c) e w =
-        by-cases (ℕ-discrete (refusalOf (stateOf h v m) c) 0)
+        by-cases (decPass (refusalOf (stateOf h v m) c))
         (λ z. let g = t .goes-on c e z .on in absurd (zero-one (cc)))
         (λ n. let g = t .refused c e n .0 .stopped in absurd (zero-one (cc)))

@@ -7,13 +7,13 @@ use Prim.Native.Nat.{ℕ, zero, suc, _+_, _-_, _%_, _≤_, _<_}
 use native.Mathlib.Decide.{ℕ-discrete, decLt}
 use native.Mathlib.Omega.{arith}
 use lib.ListN.{length}
+use Rattle.refusals.specs.declared.Check.the-variants.{Pass}
 use Rattle.math.specs.Members.{upTo, from}
 use Rattle.math.specs.MembersLaws.{∈-upTo, length-upTo, decIn}
 use Rattle.plan.specs.Layout.{Layout, Valid, layout}
-use Rattle.plan.specs.Plans.{layoutOf, verdictOf}
+use Rattle.plan.specs.Plans.{layoutOf, planCheck}
 use Rattle.plan.specs.PlanLaws.{good-bounds, good-valid}
 use Rattle.plan.specs.declared.Plan.{Plan}
-use Rattle.plan.specs.declared.Verdict.the-variants as verdict
 use Rattle.code.specs.Figures.{Least, Pair, Neighbours, Capability, pairNumber, NonzeroWeight, EqualShifts, Ruler, Figures}
 use Rattle.code.specs.Theorems.{parity-count, distance-equal, distance-ruler, distance-other, distance-pair}
 
@@ -124,12 +124,12 @@ unfolding upTo from
 two-sections n e = rw e
 
 -- the figures of a good plan
-pub figures-some : (p : Plan) → verdictOf p ≡ verdict.Good → (a : ℕ) × (b : ℕ) × (c : ℕ) × (d : ℕ) × Figures (layoutOf p) a b c d
+pub figures-some : (p : Plan) → planCheck p ≡ Pass → (a : ℕ) × (b : ℕ) × (c : ℕ) × (d : ℕ) × Figures (layoutOf p) a b c d
 unfolding layoutOf layout
 figures-some p g =
     let L = layoutOf p in
     let ok = good-valid p g in
-    let s = good-bounds p g .size in
+    let s = good-bounds p g in
     let one : Pair L 0 1 = record { first = ∈-upTo (omega (arith, s)); second = ∈-upTo (omega (arith, s)); differ = λ e. omega arith } in
     let l = length-upTo (p .n) in
     let parity = parity-count L ok (omega (arith, s)) in

@@ -21,8 +21,8 @@ use Rattle.promises.specs.Promises.{Decides}
 use Rattle.promises.specs.Building.{decides-recovered, decides-loose, decides-crossed}
 use Rattle.promises.specs.declared.Recovery.{Recovery}
 use Rattle.promises.specs.declared.Recovery.the-variants.{Recovered, Crossed, Loose}
-use Rattle.state.specs.State.{Marked}
-use Rattle.state.specs.MarkedLaws.{Bytes, marked-none, marked-both, marked-set, marked-clear}
+use Rattle.bits.specs.Bits.{Marked}
+use Rattle.bits.specs.MarkedLaws.{Bytes, marked-none, marked-both, marked-set, marked-clear}
 
 -- ---- recovery
 

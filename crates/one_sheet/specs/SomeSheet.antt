@@ -5,16 +5,16 @@ use mathlib.Core.Logic.{by-cases}
 use mathlib.Core.Bool.{Bool, true, false, cond}
 use mathlib.Core.List.{List, [], _∷_, _++_, map}
 use Prim.Native.Nat.{ℕ, zero, suc, _+_, _*_, _≤_, _<_}
-use native.Mathlib.Decide.{ℕ-discrete}
 use native.Mathlib.Omega.{arith}
 use lib.Dec.{eqb}
 use lib.ListN.{length, getD, set, take, drop, replicate, length-set, length-drop, length-replicate}
 use lib.Seq.{getD-drop}
+use Rattle.refusals.specs.RefusalLaws.{decPass}
+use Rattle.refusals.specs.declared.Check.the-variants.{Pass}
 use Rattle.plan.specs.Layout.{layout}
-use Rattle.plan.specs.Plans.{layoutOf, verdictOf, made, straightOf, powersOf, rulerOf}
+use Rattle.plan.specs.Plans.{withShift, blankOf, layoutOf, planCheck, straightOf, powersOf, rulerOf}
 use Rattle.plan.specs.PlanLaws.{good-valid}
 use Rattle.plan.specs.declared.Plan.{Plan}
-use Rattle.plan.specs.declared.Verdict.the-variants as verdict
 use Rattle.code.specs.Codewords.{at, Single}
 use Rattle.code.specs.Marks.{markBytes, erasures}
 use Rattle.code.specs.Laws.Carrying.{carried-some}
@@ -29,9 +29,10 @@ use Rattle.commands.specs.declared.Command.the-variants.{NewPlan, SetShift, Set
 use Rattle.commands.specs.declared.Parsed.{Parsed}
 use Rattle.commands.specs.declared.Parsed.the-variants.{Whole, Unknown, Short, Nothing}
 use Rattle.lines.specs.Lines.{line, endWord, recoveredWord, looseWord, crossedWord, sealedWord, symbolWord, figuresWord}
-use Rattle.state.specs.State.{State, fresh, Marked, withShift, withPlan, withBlock}
+use Rattle.state.specs.State.{State, fresh, withPlan, withBlock}
+use Rattle.bits.specs.Bits.{Marked}
 use Rattle.state.specs.Refusals.{refusalOf}
-use Rattle.state.specs.MarkedLaws.{Bytes, bytes-set}
+use Rattle.bits.specs.MarkedLaws.{Bytes, bytes-set}
 use Rattle.act.specs.Meaning.{Means}
 use Rattle.act.specs.MeaningOnce.{Standing, means-stands}
 use Rattle.act.specs.StateLaws.{place-inside, mark-inside, run-inside, shift-inside, recover-planned, seal-planned, figures-planned}
@@ -47,7 +48,7 @@ zero-one e = omega arith
 
 -- a good plan with a block and marks of its lengths, all bytes
 pub record Sound (s : State) : Type 0 where
-  pub good : verdictOf (s .plan) ≡ verdict.Good
+  pub good : planCheck (s .plan) ≡ Pass
   pub block-long : length (s .block) ≡ s .plan .n * s .plan .t
   pub symbols : Bytes (s .block)
   pub marks-long : length (s .marks) ≡ markBytes (layoutOf (s .plan))
@@ -72,7 +73,7 @@ zeros zero i = omega arith
 zeros (suc k) zero = omega arith
 zeros (suc k) (suc i) = zeros k i
 
-fresh-ready : (p : Plan) → verdictOf p ≡ verdict.Good → Ready (fresh p)
+fresh-ready : (p : Plan) → planCheck p ≡ Pass → Ready (fresh p)
 unfolding fresh
 fresh-ready p g = record {
   sound = λ _. record {
@@ -216,9 +217,9 @@ symbolOf (Powers n t q) = 0
 symbolOf (Ruler n) = 0
 
 -- a command that is not refused has a meaning
-pub means-some : {s : State} → Ready s → (c : Command) → symbolOf c < 256 → refusalOf s c ≡ 0 → Some c s
+pub means-some : {s : State} → Ready s → (c : Command) → symbolOf c < 256 → refusalOf s c ≡ Pass → Some c s
 unfolding Means withPlan withShift
-means-some {s} k (NewPlan n t) b e = new-some (NewPlan n t) (made n t (replicate n 0) .plan) (means-stands [] (ready-stands k) (NewPlan n t) e (refl, refl)) (refl, refl)
+means-some {s} k (NewPlan n t) b e = new-some (NewPlan n t) (blankOf n t .plan) (means-stands [] (ready-stands k) (NewPlan n t) e (refl, refl)) (refl, refl)
 means-some {s} k (SetShift j p) b e =
     let i = shift-inside s j p e in
     let d = k .sound (i .0) in
@@ -299,7 +300,7 @@ step n ih o s b k w less = go (parsed b) refl
     go Unknown e = (_, sheets.unknown e)
     go Short e = (_, sheets.short e)
     go (Whole c) e =
-        by-cases (ℕ-discrete (refusalOf s c) 0)
+        by-cases (decPass (refusalOf s c))
         (λ z.
         let f = whole-size b c e in
         let m = means-some k c (subst (λ (y : Command). symbolOf y < 256) (sym (whole-command b c e)) (command-small b w .small)) z in

@@ -7,23 +7,25 @@ use Prim.Native.Nat.{ℕ, _+_, _-_, _*_, _/_, _≤_, _<_}
 use native.Mathlib.Nat.{suc-mul, mul-le-mul-right}
 use native.Mathlib.Numerals.{add-one}
 use native.Mathlib.Omega.{arith}
-use lib.ListN.{length, getD, take, drop, replicate, length-replicate}
+use lib.ListN.{length, getD, take, drop, replicate}
 use lib.Seq.{ext-getD, length-take-le}
 use Rattle.math.specs.Members.{_∈_}
 use Rattle.math.specs.MembersLaws.{decIn}
+use Rattle.bounds.specs.Bounds.{maxPlaces}
 use Rattle.plan.specs.Layout.{Layout, Valid, layout, messageCount}
+use Rattle.plan.specs.GoodPlan.{GoodPlan, plan-valid}
 use Rattle.code.specs.Places.{places}
 use Rattle.code.specs.Codewords.{at, Agrees}
 use Rattle.code.specs.Messages.{Carries}
 use Rattle.code.specs.Laws.Basics.{places-∈}
 use Rattle.code.specs.Laws.Carrying.{lists-unique, carried-some}
 use Rattle.code.specs.Laws.ParityCount.{parities, messages, erased-parities, forest-parities, parity-lists, parity-or-message, message-lists}
-use Rattle.tables.specs.Picture.{Sized, Counted, Picture}
-use Rattle.tables.specs.Sizes.{sized-valid, ∈-sized}
+use Rattle.tables.specs.Picture.{Counted, Picture}
+use Rattle.tables.specs.Sizes.{∈-sized}
 use Rattle.tables.specs.Spots.{Stands, stands-section, stands-offset}
 use Rattle.sums.specs.SumLaws.{Syndromes}
 use Rattle.tables.specs.Counting.{Seen, All, Due, Notes, seen-skip, seen-all}
-use Rattle.tables.specs.Zeros.{Zeros, zeros, zeros-part}
+use Rattle.tables.specs.Zeros.{Zeros, zeros-of, zeros-room, zeros-part}
 use Rattle.tables.specs.StuckLaws.{stuck-none}
 use Rattle.settling.specs.Fill.{filled, Fillable, filled-at, filled-out, filled-long}
 use Rattle.peel.specs.Peels.{Peelable, Peels, Peeled}
@@ -33,7 +35,7 @@ use Rattle.runs.specs.Laws.Carried.{layout-count}
 
 -- a plan's numbers, its runs, and a block of its length
 pub record Sealable (n t : ℕ) (shifts runs block : List ℕ) : Type 0 where
-  pub sized : Sized n t shifts
+  pub sized : GoodPlan n t shifts
   pub of : RunsOf n t (layout n t shifts) runs
   pub block-long : length block ≡ n * t
 
@@ -71,26 +73,21 @@ cut-room {t = t} {queue = queue} {place = place} {value = value} c = record {
   third-long = length-take-le (2 * t) value (c .value-room);
 }
 
--- arrays of k zeros
-pub cut-arrays : {t : ℕ} (k : ℕ) → 2 * t ≤ k → Cut t (replicate k 0) (replicate k 0) (replicate k 0) (replicate k 0) (replicate k 0)
-cut-arrays {t} k h =
-    let room : 2 * t ≤ length (replicate {A = ℕ} k 0) = omega (arith, length-replicate {A = ℕ} k 0) in
-    record {
-      sum-zeros = zeros k h;
-      tally-zeros = zeros k h;
-      queue-room = room;
-      place-room = room;
-      value-room = room;
-    }
+-- the law of every size: arrays of k zeros are tables for a plan whose rows are at most k
+pub cut-arrays : {n t m : ℕ} {shifts runs block : List ℕ} (k : ℕ) → Sealable n t shifts runs block × (t ≤ m) → 2 * m ≤ k
+    → Sealable n t shifts runs block × Cut t (replicate k 0) (replicate k 0) (replicate k 0) (replicate k 0) (replicate k 0)
+cut-arrays {t = t} k (g, l) h =
+    let z = zeros-of {t = t} k (g, l) h .1 in
+    (g, record { sum-zeros = z; tally-zeros = z; queue-room = zeros-room z; place-room = zeros-room z; value-room = zeros-room z })
 
 -- ---- the parity places counted, section by section
 
-module _ {n t : ℕ} {shifts runs : List ℕ} (s : Sized n t shifts) (h : RunsOf n t (layout n t shifts) runs) where
+module _ {n t : ℕ} {shifts runs : List ℕ} (s : GoodPlan n t shifts) (h : RunsOf n t (layout n t shifts) runs) where
   -- a section and the next
   pub section-next : (j : ℕ) {end : ℕ} → end ≡ j * t → end + t ≡ (j + 1) * t
   section-next j e = let f : (j + 1) * t ≡ j * t + t = rw (add-one j, suc-mul) in omega arith
 
-  pub section-fits : {j end : ℕ} → j < n → end ≡ j * t → (end + t ≤ 32768) × (getD runs j 0 ≤ t)
+  pub section-fits : {j end : ℕ} → j < n → end ≡ j * t → (end + t ≤ maxPlaces) × (getD runs j 0 ≤ t)
   section-fits {j} l e =
       let g : j + 1 ≤ n = omega arith in
       (omega (arith, section-next j e, mul-le-mul-right t g, s .places-max), runs-short h j)
@@ -143,7 +140,7 @@ pub parity-picture : {n t : ℕ} {shifts block sum tally : List ℕ} → ((c : �
 unfolding layout
 parity-picture byte s c = record { sum-long = s .long; byte = byte; sums = s .each; counted = c }
 
-pub peelable : {n t : ℕ} {shifts : List ℕ} → Sized n t shifts → (v : List ℕ) {sum tally queue place value : List ℕ} →
+pub peelable : {n t : ℕ} {shifts : List ℕ} → GoodPlan n t shifts → (v : List ℕ) {sum tally queue place value : List ℕ} →
     ParityPicture (layout n t shifts) v sum tally → Room t queue place value → Peelable n t shifts sum tally queue place value
 peelable {n} {t} {shifts} s v p room = record {
   sized = s;
@@ -153,7 +150,7 @@ peelable {n} {t} {shifts} s v p room = record {
   value-long = room .third-long;
 }
 
-module _ {n t : ℕ} {shifts : List ℕ} (s : Sized n t shifts) (v : List ℕ) (long : length v ≡ n * t) {sum tally sum' tally' place value : List ℕ} {k : ℕ}
+module _ {n t : ℕ} {shifts : List ℕ} (s : GoodPlan n t shifts) (v : List ℕ) (long : length v ≡ n * t) {sum tally sum' tally' place value : List ℕ} {k : ℕ}
     (pic : ParityPicture (layout n t shifts) v sum tally)
     (p : Peels (layout n t shifts) sum tally sum' tally' place value k) where
   ends : Peeled (layout n t shifts) (parities (layout n t shifts)) (λ c. getD v c 0) sum' tally' place value k
@@ -162,7 +159,7 @@ module _ {n t : ℕ} {shifts : List ℕ} (s : Sized n t shifts) (v : List ℕ) (
   -- peeling left nothing
   none-left : ends .F ≡ []
   none-left =
-      stuck-none (layout n t shifts) (sized-valid s) (erased-parities (layout n t shifts) .rising) (forest-parities (layout n t shifts))
+      stuck-none (layout n t shifts) (plan-valid s) (erased-parities (layout n t shifts) .rising) (forest-parities (layout n t shifts))
       (ends .picture .counted .erased .rising) (ends .settles .fewer) (ends .stuck)
 
   place-inside : (i : ℕ) → i < k → getD place i 0 < length v
@@ -213,11 +210,11 @@ spread-agrees L ok {d} {v} {w} inside s p = record {
 }
 
 -- the message spread over the block, and the parity places filled: the block carries the message
-pub sealed : {n t : ℕ} {shifts d v v' : List ℕ} → Sized n t shifts → length d ≡ messageCount (layout n t shifts) → ((i : ℕ) → getD d i 0 < 256) →
+pub sealed : {n t : ℕ} {shifts d v v' : List ℕ} → GoodPlan n t shifts → length d ≡ messageCount (layout n t shifts) → ((i : ℕ) → getD d i 0 < 256) →
     Spread (layout n t shifts) d v → Settled (layout n t shifts) v v' → Carries (layout n t shifts) v' d
 unfolding layout
 sealed {n} {t} {shifts} {d} s e byte spread q =
     let L = layout n t shifts in
-    let ok : Valid L = sized-valid s in
+    let ok : Valid L = plan-valid s in
     let c = carried-some L ok d (e ∙ sym (layout-count n t shifts s)) byte in
     subst (λ x. Carries L x d) (sym (q .found (c .0) (spread-agrees L ok (λ a h. ∈-sized s h) spread (c .1)))) (c .1)

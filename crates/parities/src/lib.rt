@@ -3,21 +3,27 @@
 ghost use mathlib.Core.Path.{_≡_};
 ghost use Prim.Native.Nat.{_*_, _≤_};
 ghost use lib.ListN.{replicate};
+ghost use Rattle.bounds.specs.Bounds.{maxT};
 ghost use Rattle.plan.specs.Layout.{layout};
+ghost use Rattle.plan.specs.GoodPlan.{GoodPlan};
 ghost use Rattle.code.specs.Laws.ParityCount.{parities};
-ghost use Rattle.tables.specs.Picture.{Sized, Counted};
+ghost use Rattle.tables.specs.Picture.{Counted};
 ghost use Rattle.runs.specs.Runs.{RunsOf};
 ghost use Rattle.parities.specs.Settling.{Sealable, Room, Blank, Cut, Settled};
 use peel::peel;
+use plan::Plan;
 use settling::fill::fill;
 use shifts::wide;
 use sums::syndromes;
 use tables::marks::note_places;
 use tables::walk::Section;
 
+// Tables that stand whole pages apart are slower: the large ones have some entries to spare.
+const SPARE: usize = 64;
+
 // Counts the parity places in a table of zeros: of each section those from its run on.
 fn count_parities(n: usize, t: usize, shifts: &[u16], runs: &[u16], tally: &mut [u16])
-    requires { ⌜ Sized n t (now shifts) × RunsOf n t (layout n t (now shifts)) (now runs) ⌝ }
+    requires { ⌜ GoodPlan n t (now shifts) × RunsOf n t (layout n t (now shifts)) (now runs) ⌝ }
     requires { ⌜ now tally ≡ replicate (2 * t) 0 ⌝ }
     ensures { λ _. ⌜ Counted (layout n t (now (shifts .entry))) (parities (layout n t (now (shifts .entry)))) (now (tally .exit)) ⌝ }
 {
@@ -102,11 +108,11 @@ fn fill_small(n: usize, t: usize, shifts: &[u16], runs: &[u16], block: &mut [u8]
     requires { ⌜ t ≤ 32 ⌝ }
     ensures { λ _. ⌜ Settled (layout n t (now (shifts .entry))) (now (block .entry)) (now (block .exit)) ⌝ }
 {
-    let mut sum = [0u8; 64];
-    let mut tally = [0u16; 64];
-    let mut queue = [0u16; 64];
-    let mut place = [0u16; 64];
-    let mut value = [0u8; 64];
+    let mut sum = [0u8; 2 * 32];
+    let mut tally = [0u16; 2 * 32];
+    let mut queue = [0u16; 2 * 32];
+    let mut place = [0u16; 2 * 32];
+    let mut value = [0u8; 2 * 32];
     cut(
         n,
         t,
@@ -126,11 +132,11 @@ fn fill_medium(n: usize, t: usize, shifts: &[u16], runs: &[u16], block: &mut [u8
     requires { ⌜ t ≤ 192 ⌝ }
     ensures { λ _. ⌜ Settled (layout n t (now (shifts .entry))) (now (block .entry)) (now (block .exit)) ⌝ }
 {
-    let mut sum = [0u8; 384];
-    let mut tally = [0u16; 384];
-    let mut queue = [0u16; 384];
-    let mut place = [0u16; 384];
-    let mut value = [0u8; 384];
+    let mut sum = [0u8; 2 * 192];
+    let mut tally = [0u16; 2 * 192];
+    let mut queue = [0u16; 2 * 192];
+    let mut place = [0u16; 2 * 192];
+    let mut value = [0u8; 2 * 192];
     cut(
         n,
         t,
@@ -150,11 +156,11 @@ fn fill_wide(n: usize, t: usize, shifts: &[u16], runs: &[u16], block: &mut [u8])
     requires { ⌜ t ≤ 1024 ⌝ }
     ensures { λ _. ⌜ Settled (layout n t (now (shifts .entry))) (now (block .entry)) (now (block .exit)) ⌝ }
 {
-    let mut sum = [0u8; 2112];
-    let mut tally = [0u16; 2112];
-    let mut queue = [0u16; 2112];
-    let mut place = [0u16; 2112];
-    let mut value = [0u8; 2112];
+    let mut sum = [0u8; 2 * 1024 + SPARE];
+    let mut tally = [0u16; 2 * 1024 + SPARE];
+    let mut queue = [0u16; 2 * 1024 + SPARE];
+    let mut place = [0u16; 2 * 1024 + SPARE];
+    let mut value = [0u8; 2 * 1024 + SPARE];
     cut(
         n,
         t,
@@ -171,14 +177,14 @@ fn fill_wide(n: usize, t: usize, shifts: &[u16], runs: &[u16], block: &mut [u8])
 
 fn fill_large(n: usize, t: usize, shifts: &[u16], runs: &[u16], block: &mut [u8])
     requires { ⌜ Sealable n t (now shifts) (now runs) (now block) ⌝ }
-    requires { ⌜ t ≤ 2048 ⌝ }
+    requires { ⌜ t ≤ maxT ⌝ }
     ensures { λ _. ⌜ Settled (layout n t (now (shifts .entry))) (now (block .entry)) (now (block .exit)) ⌝ }
 {
-    let mut sum = [0u8; 4160];
-    let mut tally = [0u16; 4160];
-    let mut queue = [0u16; 4160];
-    let mut place = [0u16; 4160];
-    let mut value = [0u8; 4160];
+    let mut sum = [0u8; 2 * Plan::MAX_T + SPARE];
+    let mut tally = [0u16; 2 * Plan::MAX_T + SPARE];
+    let mut queue = [0u16; 2 * Plan::MAX_T + SPARE];
+    let mut place = [0u16; 2 * Plan::MAX_T + SPARE];
+    let mut value = [0u8; 2 * Plan::MAX_T + SPARE];
     cut(
         n,
         t,

@@ -1,6 +1,6 @@
 -- What the turns of peeling promise up to `peel` (Peels), and the loop's invariant (Peeling).
 -- L is always the layout of n, t and the shifts.
-use mathlib.Core.Path.{_≡_, sym, _∙_, ap}
+use mathlib.Core.Path.{_≡_, sym, _∙_, ap, subst}
 use mathlib.Core.Logic.{_≢_}
 use mathlib.Core.List.{List}
 use Prim.Native.Nat.{ℕ, _+_, _-_, _*_, _≤_, _<_}
@@ -8,11 +8,13 @@ use native.Mathlib.Omega.{arith}
 use lib.ListN.{length, getD, set, length-set}
 use Rattle.math.specs.Members.{without}
 use Rattle.math.specs.Xor.{_⊕_}
+use Rattle.bounds.specs.Bounds.{maxT}
 use Rattle.plan.specs.Layout.{Layout, layout}
+use Rattle.plan.specs.GoodPlan.{GoodPlan}
 use Rattle.code.specs.Checks.{update}
-use Rattle.tables.specs.Picture.{Sized, counts, Picture, Pictured, Settles, Stuck}
+use Rattle.tables.specs.Picture.{counts, Picture, Pictured, Settles, Stuck}
 use Rattle.tables.specs.Bounds.{tally-counts}
-use Rattle.settling.specs.Queue.{Queued, Waits, Enters, room, full, entered, passed, taken, emptied}
+use Rattle.settling.specs.Queue.{Queued, Waits, Enters, Lowers, room, full, entered, passed, taken, emptied}
 use Rattle.settling.specs.Settling.{settles-none, settles-more}
 use Rattle.settling.specs.Takes.{One, Takes}
 
@@ -25,7 +27,7 @@ pub record Reached (L : Layout) (E : List ℕ) (u : ℕ → ℕ) (sum tally plac
 
 -- between two turns
 pub record Ready (n t : ℕ) (shifts sum tally queue place value : List ℕ) (head tail count : ℕ) : Type 0 where
-  pub sized : Sized n t shifts
+  pub sized : GoodPlan n t shifts
   pub pictured : Pictured (layout n t shifts) sum tally
   pub queued : Queued tally queue (2 * t) head tail
   pub counted : count ≤ head
@@ -48,17 +50,26 @@ module _ {n t : ℕ} {shifts sum tally queue place value : List ℕ} {head tail 
   pub head-long : head < length queue
   head-long = omega (arith, full (d .queued), d .queue-long)
 
-  pub head-tally : getD queue head 0 < length tally
-  unfolding layout
-  head-tally = omega (arith, head-row, d .pictured .picture .counted .long)
+  pub count-lt : count < 2 * t
+  count-lt = omega (arith, d .counted, full (d .queued))
 
-  pub steps-over : counts tally (getD queue head 0) ≢ 1
+  pub count-long : (count < length place) × (count < length value)
+  count-long = (omega (arith, count-lt, d .place-long), omega (arith, count-lt, d .value-long))
+
+-- row r is at the head
+module _ {n t : ℕ} {shifts sum tally queue place value : List ℕ} {head tail count r : ℕ}
+    (d : Ready n t shifts sum tally queue place value head tail count) (h : head < tail) (at-head : r ≡ getD queue head 0) where
+  pub head-tally : r < length tally
+  unfolding layout
+  head-tally = omega (arith, at-head, head-row d h, d .pictured .picture .counted .long)
+
+  pub steps-over : counts tally r ≢ 1
       → Steps n t shifts sum tally queue place value head count sum tally queue place value tail count
   steps-over e = record {
     ready = record {
       sized = d .sized;
       pictured = d .pictured;
-      queued = passed (d .queued) h e;
+      queued = passed (d .queued) h (λ o. e (rw at-head o));
       counted = omega (arith, d .counted);
       queue-long = d .queue-long;
       place-long = d .place-long;
@@ -67,26 +78,19 @@ module _ {n t : ℕ} {shifts sum tally queue place value : List ℕ} {head tail 
     reached = λ E u q. q;
   }
 
-  pub head-one : counts tally (getD queue head 0) ≡ 1 → One n t shifts sum tally (getD queue head 0)
-  head-one e = record { sized = d .sized; pictured = d .pictured; row = head-row; left-one = e }
+  pub head-one : counts tally r ≡ 1 → One n t shifts sum tally r
+  head-one e = record { sized = d .sized; pictured = d .pictured; row = rw at-head (head-row d h); left-one = e }
 
-  pub count-lt : count < 2 * t
-  count-lt = omega (arith, d .counted, full (d .queued))
-
-  pub count-long : (count < length place) × (count < length value)
-  count-long = (omega (arith, count-lt, d .place-long), omega (arith, count-lt, d .value-long))
-
-  module _ {sum' tally' : List ℕ} {c x b : ℕ} (k : Takes (layout n t shifts) sum tally sum' tally' (getD queue head 0) c x b) where
+  module _ {sum' tally' : List ℕ} {c x b : ℕ} (k : Takes (layout n t shifts) sum tally sum' tally' r c x b) where
     step-waits : Waits tally' queue (2 * t) (head + 1) tail b
     unfolding layout
-    step-waits = taken (d .queued) h (k .inside) (k .lowers)
+    step-waits = taken (d .queued) h (k .inside) (subst (λ q. Lowers tally tally' q b) at-head (k .lowers))
 
     step-room : counts tally' b ≡ 1 → tail < length queue
     step-room e = omega (arith, room step-waits e, d .queue-long)
 
-    pub rest-room : {rest : ℕ} → rest ≡ counts tally' b → (b < 4096) × (rest ≡ 1 → tail < length queue)
-    unfolding layout
-    rest-room e = (omega (arith, k .inside, d .sized .t-max), λ one. step-room (sym e ∙ one))
+    pub rest-room : {rest : ℕ} → rest ≡ counts tally' b → rest ≡ 1 → tail < length queue
+    rest-room e one = step-room (sym e ∙ one)
 
     pub steps : {queue' place' value' : List ℕ} {rest tail' : ℕ} → rest ≡ counts tally' b → Enters queue tail b rest queue' tail' → length queue' ≡ length queue
         → place' ≡ set place count c → value' ≡ set value count x
@@ -111,7 +115,7 @@ module _ {n t : ℕ} {shifts sum tally queue place value : List ℕ} {head tail 
             F = without c (q .F);
             x = update (q .x) c (q .x c ⊕ x);
             picture = y .picture;
-            settles = settles-more (layout n t shifts) x (q .settles) (count-long .0) (count-long .1) ep ev (y .member) (y .forces);
+            settles = settles-more (layout n t shifts) x (q .settles) (count-long d h .0) (count-long d h .1) ep ev (y .member) (y .forces);
           };
     }
 
@@ -138,14 +142,14 @@ pub record Peels (L : Layout) (sum tally sum' tally' place' value' : List ℕ) (
 
 -- what `peel` requires
 pub record Peelable (n t : ℕ) (shifts sum tally queue place value : List ℕ) : Type 0 where
-  pub sized : Sized n t shifts
+  pub sized : GoodPlan n t shifts
   pub pictured : Pictured (layout n t shifts) sum tally
   pub queue-long : length queue ≡ 2 * t
   pub place-long : length place ≡ 2 * t
   pub value-long : length value ≡ 2 * t
 
 pub peelable-seed : {n t : ℕ} {shifts sum tally queue place value : List ℕ} → Peelable n t shifts sum tally queue place value
-    → (t ≤ 2048) × (length tally ≡ 2 * t) × (length queue ≡ 2 * t)
+    → (t ≤ maxT) × (length tally ≡ 2 * t) × (length queue ≡ 2 * t)
 unfolding layout
 peelable-seed d = (d .sized .t-max, d .pictured .picture .counted .long, d .queue-long)
 
@@ -185,7 +189,7 @@ ready-long d p =
 
 pub peeling-less : {n t : ℕ} {shifts sum₀ tally₀ sum tally queue place value : List ℕ} {head tail count : ℕ}
     → Peeling n t shifts sum₀ tally₀ sum tally queue place value head tail count → head < tail
-    → (head < 4096) × (2 * t - (head + 1) < 2 * t - head)
+    → (head < 2 * maxT) × (2 * t - (head + 1) < 2 * t - head)
 peeling-less p h = (omega (arith, full (p .ready .queued), p .ready .sized .t-max), omega (arith, full (p .ready .queued)))
 
 pub peeling-step : {n t : ℕ} {shifts sum₀ tally₀ sum tally queue place value : List ℕ} {head tail count : ℕ}

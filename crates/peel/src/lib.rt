@@ -1,5 +1,5 @@
 // Peeling: settling erasures row by row, as far as some row has exactly one left.
-// Entry: peel.
+// Public for the crates above only.
 ghost use mathlib.Core.Path.{_≡_};
 ghost use Prim.Native.Nat.{_*_, _<_};
 ghost use Rattle.plan.specs.Layout.{layout};
@@ -8,6 +8,9 @@ use settling::queue::enter;
 use settling::queue::enter_stored;
 use settling::queue::seed;
 use settling::settle::settle;
+use tables::lists::put_place;
+use tables::lists::row_at;
+use tables::rows::TALLY_UNIT;
 
 // The ends of the queue and of the list of settled places.
 struct Ends {
@@ -15,7 +18,7 @@ struct Ends {
     count: usize,
 }
 
-// One turn: the row at the head of the queue, if it still has exactly one left, by its tally over 1,024.
+// One turn: the row at the head of the queue, if it still has exactly one left, by its tally over the unit.
 fn step_chain(
     n: usize,
     t: usize,
@@ -34,13 +37,16 @@ fn step_chain(
 {
     let tail = ends.tail;
     let count = ends.count;
-    let row = queue[head] as usize;
-    if tally[row] / 1024 != 1 {
+    let row = row_at(&queue[..], head);
+    let r = row.0 as usize;
+    if tally[r] / TALLY_UNIT != 1 {
         return Ends { tail, count };
     }
     let s = settle(n, t, shifts, &mut sum[..], &mut tally[..], row);
-    let longer = enter(&mut queue[..], tail, s.other, s.rest);
-    place[count] = s.place.0;
+    let c = s.place;
+    let other = s.other;
+    let longer = enter(&mut queue[..], tail, other, s.rest);
+    put_place(&mut place[..], count, c);
     value[count] = s.value;
     Ends {
         tail: longer,
@@ -67,13 +73,16 @@ fn step_stored(
 {
     let tail = ends.tail;
     let count = ends.count;
-    let row = queue[head] as usize;
-    if tally[row] / 1024 != 1 {
+    let row = row_at(&queue[..], head);
+    let r = row.0 as usize;
+    if tally[r] / TALLY_UNIT != 1 {
         return Ends { tail, count };
     }
     let s = settle(n, t, shifts, &mut sum[..], &mut tally[..], row);
-    let longer = enter_stored(&mut queue[..], tail, s.other, s.rest);
-    place[count] = s.place.0;
+    let c = s.place;
+    let other = s.other;
+    let longer = enter_stored(&mut queue[..], tail, other, s.rest);
+    put_place(&mut place[..], count, c);
     value[count] = s.value;
     Ends {
         tail: longer,

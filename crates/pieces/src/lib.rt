@@ -1,4 +1,5 @@
 // The pieces of a line: a word, a number, a list of numbers, the line feed. Each is put at an index and answers the next one.
+// Public for the crates above only.
 ghost use mathlib.Core.List.{[], _∷_};
 ghost use Prim.Native.Nat.{suc, _+_, _*_, _≤_};
 ghost use lib.ListN.{length, take};

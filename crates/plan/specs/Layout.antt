@@ -44,6 +44,7 @@ unfolding bottomRow
 bottom L c = bottomRow (L .t) (L .shift (c / L .t)) (c % L .t)
 
 -- "g the greatest common divisor of t and all p_j - p_0", the sign not counting: differences to the first section
+-- (`gcdAll` is what its name says: `gcdAll-is`, beside its definition in math/specs/Gcd.antt)
 unfoldable pub divisor : Layout → ℕ
 divisor L = gcdAll (L .t) (map (λ j. gap (L .shift j) (L .shift (getD (L .sections) 0 0))) (L .sections))
 

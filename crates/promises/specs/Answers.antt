@@ -1,6 +1,7 @@
 -- The number and values of the answers of recover, encode and message_of.
 use Prim.Native.Nat.{ℕ}
-use Rattle.calls.specs.Calls.{refusalNumber}
+use Rattle.refusals.specs.Refusals.{numberOf}
+use Rattle.refusals.specs.declared.Refusal.the-variants as refusal
 use Rattle.promises.specs.declared.Recovery.{Recovery}
 use Rattle.promises.specs.declared.Recovery.the-variants as recovery
 use Rattle.promises.specs.declared.Encoding.{Encoding}
@@ -10,9 +11,9 @@ use Rattle.promises.specs.declared.Reading.the-variants as reading
 
 abbrev pub recoveryNumber : Recovery → ℕ
 recoveryNumber recovery.Recovered = 0
-recoveryNumber (recovery.Crossed z) = 5
-recoveryNumber (recovery.Loose z) = 6
-recoveryNumber (recovery.Refused x) = refusalNumber x
+recoveryNumber (recovery.Crossed z) = numberOf refusal.Crossed
+recoveryNumber (recovery.Loose z) = numberOf refusal.Loose
+recoveryNumber (recovery.Refused x) = numberOf x
 
 -- the count that goes with the witness list
 abbrev pub recoveryCount : Recovery → ℕ
@@ -23,10 +24,10 @@ recoveryCount (recovery.Refused x) = 0
 
 abbrev pub encodingNumber : Encoding → ℕ
 encodingNumber encoding.Encoded = 0
-encodingNumber encoding.Unsealed = 11
-encodingNumber (encoding.Refused x) = refusalNumber x
+encodingNumber encoding.Unsealed = numberOf refusal.Unsealed
+encodingNumber (encoding.Refused x) = numberOf x
 
 abbrev pub readingNumber : Reading → ℕ
 readingNumber reading.Read = 0
-readingNumber reading.Crossed = 5
-readingNumber (reading.Refused x) = refusalNumber x
+readingNumber reading.Crossed = numberOf refusal.Crossed
+readingNumber (reading.Refused x) = numberOf x

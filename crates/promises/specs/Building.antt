@@ -5,19 +5,18 @@ use mathlib.Core.Path.{_≡_, refl, sym, _∙_}
 use mathlib.Core.Logic.{_≢_}
 use mathlib.Core.Bool.{true}
 use mathlib.Core.List.{List, [], map}
-use Prim.Native.Nat.{ℕ, _-_, _*_, _≤_, _<_}
+use Prim.Native.Nat.{ℕ, _+_, _-_, _*_, _/_, _≤_, _<_}
 use native.Mathlib.Nat.{div-lt-iff-lt-mul}
 use native.Mathlib.Omega.{arith}
 use lib.ListN.{length, replicate}
-use lib.Seq.{ext-getD}
+use lib.Seq.{ext-getD, take-all}
 use borrow.Author.Tests.{eq-eqb}
 use Rattle.math.specs.Members.{_∈_}
 use Rattle.math.specs.MembersLaws.{∈-upTo}
 use Rattle.plan.specs.Layout.{Layout, Valid, layout, messageCount}
-use Rattle.plan.specs.Plans.{layoutOf, verdictOf}
+use Rattle.plan.specs.Plans.{layoutOf, planCheck}
 use Rattle.plan.specs.PlanLaws.{good-valid}
 use Rattle.plan.specs.declared.Plan.{Plan}
-use Rattle.plan.specs.declared.Verdict.the-variants as verdict
 use Rattle.code.specs.Places.{places}
 use Rattle.code.specs.Codewords.{at, Codeword, Agrees, Single, TwoOrMore, None}
 use Rattle.code.specs.Marks.{markBytes, markCount, NoSpare, erasures}
@@ -34,9 +33,9 @@ use Rattle.code.specs.Laws.ParityCount.{messages, message-lists}
 use Rattle.calls.specs.Calls.{checkOf, lengthsFit, spareClear, noneFrom}
 use Rattle.calls.specs.CallsLaws.{pass-good, pass-lengths, passes}
 use Rattle.calls.specs.declared.Lent.{Lent}
-use Rattle.calls.specs.declared.Refusal.{Refusal}
-use Rattle.calls.specs.declared.Check.{Check}
-use Rattle.calls.specs.declared.Check.the-variants.{Pass, Stop}
+use Rattle.refusals.specs.declared.Refusal.{Refusal}
+use Rattle.refusals.specs.declared.Check.{Check}
+use Rattle.refusals.specs.declared.Check.the-variants.{Pass, Stop}
 use Rattle.promises.specs.declared.Recovery.{Recovery}
 use Rattle.promises.specs.declared.Recovery.the-variants.{Recovered, Crossed, Loose, Refused}
 use Rattle.promises.specs.declared.Encoding.the-variants as encoding
@@ -90,7 +89,7 @@ module _ {L : Layout} {E v : List ℕ} where
       record {
         recovered-when = (λ _. s, λ _. refl);
         recovered-to = λ _. a;
-        recovered-list = λ _. e;
+        recovered-list = λ _. (e, refl);
         loose-when = (λ q. absurd (recovered-not-loose (q .1)), λ d. absurd (single-not-two s d));
         loose-keeps = λ z q. absurd (recovered-not-loose q);
         loose-shows = λ z q. absurd (recovered-not-loose q);
@@ -98,6 +97,11 @@ module _ {L : Layout} {E v : List ℕ} where
         crossed-keeps = λ z q. absurd (recovered-not-crossed q);
         crossed-shows = λ z q. absurd (recovered-not-crossed q);
         not-refused = λ x q. recovered-not-refused q;
+        number = record {
+          success-when = (λ _. s, λ _. refl);
+          crossed-when = (λ q. absurd (omega (arith, q)), λ n. absurd (single-not-none s n));
+          loose-when = (λ q. absurd (omega (arith, q)), λ d. absurd (single-not-two s d));
+        };
       }
 
 module _ {L : Layout} (ok : Valid L) {E v : List ℕ} (er : Erased L E) where
@@ -112,11 +116,16 @@ module _ {L : Layout} (ok : Valid L) {E v : List ℕ} (er : Erased L E) where
         recovered-list = λ q. absurd (recovered-not-loose (sym q));
         loose-when = (λ _. d, λ _. (length l, refl));
         loose-keeps = λ z q. refl;
-        loose-shows = λ z q. (l, c, cc, e, highest);
+        loose-shows = λ z q. (l, c, refl, e, highest);
         crossed-when = (λ q. absurd (loose-not-crossed (q .1)), λ n. absurd (two-not-none d n));
         crossed-keeps = λ z q. absurd (loose-not-crossed q);
         crossed-shows = λ z q. absurd (loose-not-crossed q);
         not-refused = λ x q. loose-not-refused q;
+        number = record {
+          success-when = (λ q. absurd (omega (arith, q)), λ s. absurd (single-not-two s d));
+          crossed-when = (λ q. absurd (omega (arith, q)), λ n. absurd (two-not-none d n));
+          loose-when = (λ _. d, λ _. refl);
+        };
       }
 
   -- the lowest component that does not add up to 0 is shown
@@ -132,8 +141,13 @@ module _ {L : Layout} (ok : Valid L) {E v : List ℕ} (er : Erased L E) where
         loose-shows = λ z q. absurd (loose-not-crossed (sym q));
         crossed-when = (λ _. n, λ _. (length l, refl));
         crossed-keeps = λ z q. refl;
-        crossed-shows = λ z q. (l, bad, cc, e, crossed L ok E er (at v) l (bad .component) (bad .unbalanced));
+        crossed-shows = λ z q. (l, bad, refl, e, crossed L ok E er (at v) l (bad .component) (bad .unbalanced));
         not-refused = λ x q. crossed-not-refused q;
+        number = record {
+          success-when = (λ q. absurd (omega (arith, q)), λ s. absurd (single-not-none s n));
+          crossed-when = (λ _. n, λ _. refl);
+          loose-when = (λ q. absurd (omega (arith, q)), λ d. absurd (two-not-none d n));
+        };
       }
 
 pub recovers-refused : (p : Plan) (v m w : List ℕ) {x : Refusal} → checkOf p (recoverLent v m w) m ≡ Stop x → Recovers p v m w (Refused x) v w
@@ -160,31 +174,34 @@ plan-places p ok h = ∈-places (layoutOf p) h (∈-upTo (div-lt-iff-lt-mul (ok 
 -- the lengths of a call that passes
 pub recover-lengths : (p : Plan) (v m w : List ℕ) → checkOf p (recoverLent v m w) m ≡ Pass →
     (length v ≡ layoutOf p .n * layoutOf p .t) × (length m ≡ markBytes (layoutOf p)) × (length w ≡ 2 * layoutOf p .t)
-unfolding recoverLent
+unfolding recoverLent layoutOf layout markBytes
 recover-lengths p v m w e =
     let l = pass-lengths p (recoverLent v m w) m e in
     (l .block (length v) refl, l .marks (length m) refl, l .witness (length w) refl)
 
 pub message-lengths : (p : Plan) (d v : List ℕ) → checkOf p (messageLent d v) [] ≡ Pass →
     (length v ≡ layoutOf p .n * layoutOf p .t) × (length d ≡ messageCount (layoutOf p))
-unfolding messageLent
+unfolding messageLent layoutOf layout
 message-lengths p d v e =
     let l = pass-lengths p (messageLent d v) [] e in
     (l .block (length v) refl, l .message (length d) refl)
 
--- a call of recover passes where the plan is good, the lengths are the plan's and no spare bit is 1
-pub recover-passes : (p : Plan) (v m w : List ℕ) → verdictOf p ≡ verdict.Good → length v ≡ layoutOf p .n * layoutOf p .t →
-    length m ≡ markBytes (layoutOf p) → length w ≡ 2 * layoutOf p .t → NoSpare (layoutOf p) m → checkOf p (recoverLent v m w) m ≡ Pass
-recover-passes p v m w good a b c spare = sym (passes p (recoverLent v m w) m good fits clear)
-  where
-    fits : lengthsFit (layoutOf p) (recoverLent v m w) ≡ true
-    fits = unfold lengthsFit recoverLent in
-        simp (eq-eqb (length v) (layoutOf p .n * layoutOf p .t) a, eq-eqb (length m) (markBytes (layoutOf p)) b, eq-eqb (length w) (2 * layoutOf p .t) c)
+-- marks of the plan's length, or none at all, of which no spare bit is 1 pass the last test
+pub clear-spare : (p : Plan) (m : List ℕ) → length m ≤ markBytes (layoutOf p) → NoSpare (layoutOf p) m → spareClear (p .n * p .t) m ≡ true
+unfolding spareClear noneFrom NoSpare layoutOf layout markBytes
+clear-spare p m l spare =
+    let whole = take-all ((p .n * p .t + 7) / 8) m (omega (arith, l)) in
+    rw whole (eq-eqb (markCount m (p .n * p .t) (8 * length m - p .n * p .t)) 0
+    (markCount-zero m (p .n * p .t) (8 * length m - p .n * p .t) (λ k h l. spare k h (omega arith))))
 
-    clear : spareClear (layoutOf p) m ≡ true
-    clear = unfold spareClear noneFrom NoSpare in
-        eq-eqb (markCount m (layoutOf p .n * layoutOf p .t) (8 * length m - layoutOf p .n * layoutOf p .t)) 0
-        (markCount-zero m (layoutOf p .n * layoutOf p .t) (8 * length m - layoutOf p .n * layoutOf p .t) (λ k h l. spare k h (omega arith)))
+-- a call of recover passes where the plan is good, the lengths are the plan's and no spare bit is 1
+pub recover-passes : (p : Plan) (v m w : List ℕ) → planCheck p ≡ Pass → length v ≡ layoutOf p .n * layoutOf p .t →
+    length m ≡ markBytes (layoutOf p) → length w ≡ 2 * layoutOf p .t → NoSpare (layoutOf p) m → checkOf p (recoverLent v m w) m ≡ Pass
+recover-passes p v m w good a b c spare = sym (passes p (recoverLent v m w) m good fits (clear-spare p m (omega (arith, b)) spare))
+  where
+    fits : lengthsFit (p .n) (p .t) (messageCount (layoutOf p)) (recoverLent v m w) ≡ true
+    fits = unfold lengthsFit recoverLent layoutOf layout markBytes in
+        simp (eq-eqb (length v) (p .n * p .t) a, eq-eqb (length m) ((p .n * p .t + 7) / 8) b, eq-eqb (length w) (2 * p .t) c)
 
 -- no other codeword of a plan carries the message
 pub carries-single : (p : Plan) → Valid (layoutOf p) → {w d : List ℕ} → Carries (layoutOf p) w d → Single (λ x. Carries (layoutOf p) x d)
@@ -203,6 +220,7 @@ encodes-refused p d v {x} stop = record {
   unsealed-when = λ q. absurd (not-both q stop);
   unsealed-keeps = λ _. refl;
   not-refused = λ q. absurd (not-both q stop);
+  number = λ q. absurd (not-both q stop);
 }
 
 pub encodes-done : (p : Plan) (d v : List ℕ) {v' : List ℕ} → checkOf p (messageLent d v) [] ≡ Pass → Carries (layoutOf p) v' d →
@@ -216,6 +234,7 @@ encodes-done p d v {v'} pass a =
       unsealed-when = λ _. (λ q. absurd (zero-one (cc)), λ n. absurd (single-not-none s n));
       unsealed-keeps = λ q. absurd (zero-one (cc));
       not-refused = λ _ x q. zero-one (cc);
+      number = λ _. (λ _. s, λ _. refl);
     }
 
 pub reads-refused : (p : Plan) (v d : List ℕ) {x : Refusal} → checkOf p (messageLent d v) [] ≡ Stop x → Reads p v d (reading.Refused x) d
@@ -226,6 +245,7 @@ reads-refused p v d {x} stop = record {
   crossed-when = λ q. absurd (not-both q stop);
   crossed-keeps = λ _. refl;
   not-refused = λ q. absurd (not-both q stop);
+  number = λ q. absurd (not-both q stop);
 }
 
 -- the symbols at the message places are what a codeword carries
@@ -241,6 +261,7 @@ reads-read p v d pass h e = record {
   crossed-when = λ _. (λ q. absurd (zero-one (cc)), λ n. absurd (n h));
   crossed-keeps = λ q. absurd (zero-one (cc));
   not-refused = λ _ x q. zero-one (cc);
+  number = λ _. (λ _. h, λ _. refl);
 }
 
 pub reads-crossed : (p : Plan) (v d : List ℕ) → checkOf p (messageLent d v) [] ≡ Pass → ¬ (Codeword (layoutOf p) v) → Reads p v d reading.Crossed d
@@ -251,4 +272,5 @@ reads-crossed p v d pass n = record {
   crossed-when = λ _. (λ _. n, λ _. refl);
   crossed-keeps = λ _. refl;
   not-refused = λ _ x q. zero-one (cc);
+  number = λ _. (λ q. absurd (omega (arith, q)), λ h. absurd (n h));
 }

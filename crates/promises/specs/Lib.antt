@@ -5,3 +5,4 @@ pub mod Building
 pub mod MarksOf
 pub mod Theorems
 pub mod Numbers
+pub mod Once

@@ -1,28 +1,29 @@
 -- 01's numbers beside the outcomes that they stand for, and the joins between counts: what an answer's number says.
 -- Main results: decided-number, encoded-number, read-number, encode-always, message-count-is.
 use mathlib.Core.Path.{_≡_, refl, sym, _∙_, ap}
-use mathlib.Core.Logic.{_↔_}
+use mathlib.Core.Logic.{_↔_, _≢_}
 use mathlib.Core.List.{List, [], List·Memᴰ}
 use Prim.Native.Nat.{ℕ, _-_, _*_, _<_}
 use native.Mathlib.Omega.{arith}
 use lib.ListN.{length}
 use Rattle.math.specs.MembersLaws.{∈-upTo, length-upTo}
-use Rattle.plan.specs.Layout.{Layout, Valid, layout, messageCount, divisor}
-use Rattle.plan.specs.Plans.{layoutOf, verdictOf}
+use Rattle.plan.specs.Layout.{Layout, layout, messageCount, divisor}
+use Rattle.plan.specs.Plans.{layoutOf, planCheck}
 use Rattle.plan.specs.PlanLaws.{good-valid, good-bounds}
 use Rattle.plan.specs.declared.Plan.{Plan}
-use Rattle.plan.specs.declared.Verdict.the-variants as verdict
-use Rattle.code.specs.Codewords.{at, Codeword, Agrees, Single, TwoOrMore, None}
+use Rattle.code.specs.Codewords.{at, Codeword, Single}
 use Rattle.code.specs.Messages.{Message, Lists, Carries}
 use Rattle.code.specs.Theorems.{message-count, carried-once}
 use Rattle.code.specs.Laws.Carrying.{lists-unique}
-use Rattle.calls.specs.Calls.{checkOf, refusalNumber}
+use Rattle.refusals.specs.Refusals.{numberOf}
+use Rattle.refusals.specs.RefusalLaws.{number-some}
+use Rattle.calls.specs.Calls.{checkOf}
 use Rattle.calls.specs.CallsLaws.{pass-good}
-use Rattle.calls.specs.declared.Refusal.{Refusal}
-use Rattle.calls.specs.declared.Refusal.the-variants as refusal
-use Rattle.calls.specs.declared.Check.the-variants.{Pass}
+use Rattle.refusals.specs.declared.Refusal.{Refusal}
+use Rattle.refusals.specs.declared.Refusal.the-variants as refusal
+use Rattle.refusals.specs.declared.Check.the-variants.{Pass}
 use Rattle.promises.specs.Answers.{recoveryNumber, encodingNumber, readingNumber}
-use Rattle.promises.specs.Promises.{Decides, Encodes, Reads, messageLent}
+use Rattle.promises.specs.Promises.{Numbered, Decides, EncodedBy, Encodes, ReadBy, Reads, messageLent}
 use Rattle.promises.specs.Building.{message-lengths}
 use Rattle.promises.specs.declared.Recovery.{Recovery}
 use Rattle.promises.specs.declared.Recovery.the-variants.{Recovered, Crossed, Loose, Refused}
@@ -31,69 +32,53 @@ use Rattle.promises.specs.declared.Encoding.the-variants as encoding
 use Rattle.promises.specs.declared.Reading.{Reading}
 use Rattle.promises.specs.declared.Reading.the-variants as reading
 
--- the numbers of refusals are 1 to 4
-refusal-some : (x : Refusal) → 0 < refusalNumber x
-refusal-some refusal.Size = omega arith
-refusal-some refusal.Shift = omega arith
-refusal-some refusal.Length = omega arith
-refusal-some refusal.Spare = omega arith
+-- The fields that speak of numbers follow from those that speak of cases.
 
-refusal-few : (x : Refusal) → refusalNumber x < 5
-refusal-few refusal.Size = omega arith
-refusal-few refusal.Shift = omega arith
-refusal-few refusal.Length = omega arith
-refusal-few refusal.Spare = omega arith
+number-success : (r : Recovery) → ((x : Refusal) → r ≢ Refused x) → recoveryNumber r ≡ 0 → r ≡ Recovered
+number-success Recovered n e = refl
+number-success (Crossed z) n e = absurd (omega (arith, e))
+number-success (Loose z) n e = absurd (omega (arith, e))
+number-success (Refused x) n e = absurd (n x refl)
 
-number-zero : (r : Recovery) → recoveryNumber r ≡ 0 → r ≡ Recovered
-number-zero Recovered e = refl
-number-zero (Crossed z) e = absurd (let f : _≡_ {A = ℕ} 5 0 = e in omega arith)
-number-zero (Loose z) e = absurd (let f : _≡_ {A = ℕ} 6 0 = e in omega arith)
-number-zero (Refused x) e = absurd (omega (arith, refusal-some x, e))
+number-crossed : (r : Recovery) → ((x : Refusal) → r ≢ Refused x) → recoveryNumber r ≡ numberOf refusal.Crossed → (z : ℕ) × (r ≡ Crossed z)
+number-crossed Recovered n e = absurd (omega (arith, e))
+number-crossed (Crossed z) n e = (z, refl)
+number-crossed (Loose z) n e = absurd (omega (arith, e))
+number-crossed (Refused x) n e = absurd (n x refl)
 
-number-five : (r : Recovery) → recoveryNumber r ≡ 5 → (z : ℕ) × (r ≡ Crossed z)
-number-five Recovered e = absurd (let f : _≡_ {A = ℕ} 0 5 = e in omega arith)
-number-five (Crossed z) e = (z, refl)
-number-five (Loose z) e = absurd (let f : _≡_ {A = ℕ} 6 5 = e in omega arith)
-number-five (Refused x) e = absurd (omega (arith, refusal-few x, e))
-
-number-six : (r : Recovery) → recoveryNumber r ≡ 6 → (z : ℕ) × (r ≡ Loose z)
-number-six Recovered e = absurd (let f : _≡_ {A = ℕ} 0 6 = e in omega arith)
-number-six (Crossed z) e = absurd (let f : _≡_ {A = ℕ} 5 6 = e in omega arith)
-number-six (Loose z) e = (z, refl)
-number-six (Refused x) e = absurd (omega (arith, refusal-few x, e))
+number-loose : (r : Recovery) → ((x : Refusal) → r ≢ Refused x) → recoveryNumber r ≡ numberOf refusal.Loose → (z : ℕ) × (r ≡ Loose z)
+number-loose Recovered n e = absurd (omega (arith, e))
+number-loose (Crossed z) n e = absurd (omega (arith, e))
+number-loose (Loose z) n e = (z, refl)
+number-loose (Refused x) n e = absurd (n x refl)
 
 -- success is 0, crossed 5, loose 6, each in its case and in no other
-pub record Numbered (L : Layout) (E v : List ℕ) (number : ℕ) : Type 0 where
-  pub zero-when : (number ≡ 0) ↔ Single (Agrees L E v)
-  pub five-when : (number ≡ 5) ↔ None (Agrees L E v)
-  pub six-when : (number ≡ 6) ↔ TwoOrMore (Agrees L E v)
-
 pub decided-number : {L : Layout} {E v : List ℕ} {r : Recovery} {v' w' : List ℕ} → Decides L E v r v' w' → Numbered L E v (recoveryNumber r)
 decided-number {r = r} d =
     record {
-      zero-when = (λ e. d .recovered-when .0 (number-zero r e), λ s. ap recoveryNumber (d .recovered-when .1 s));
-      five-when = (λ e. d .crossed-when .0 (number-five r e), λ s. ap recoveryNumber (d .crossed-when .1 s .1));
-      six-when = (λ e. d .loose-when .0 (number-six r e), λ s. ap recoveryNumber (d .loose-when .1 s .1));
+      success-when = (λ e. d .recovered-when .0 (number-success r (d .not-refused) e), λ s. ap recoveryNumber (d .recovered-when .1 s));
+      crossed-when = (λ e. d .crossed-when .0 (number-crossed r (d .not-refused) e), λ s. ap recoveryNumber (d .crossed-when .1 s .1));
+      loose-when = (λ e. d .loose-when .0 (number-loose r (d .not-refused) e), λ s. ap recoveryNumber (d .loose-when .1 s .1));
     }
 
 encoded-zero : (r : Encoding) → encodingNumber r ≡ 0 → r ≡ encoding.Encoded
 encoded-zero encoding.Encoded e = refl
-encoded-zero encoding.Unsealed e = absurd (let f : _≡_ {A = ℕ} 11 0 = e in omega arith)
-encoded-zero (encoding.Refused x) e = absurd (omega (arith, refusal-some x, e))
+encoded-zero encoding.Unsealed e = absurd (omega (arith, e))
+encoded-zero (encoding.Refused x) e = absurd (omega (arith, number-some x, e))
 
 -- encode's number is 0 exactly when one codeword carries the message
 pub encoded-number : (p : Plan) (d v : List ℕ) {r : Encoding} {v' : List ℕ} → Encodes p d v r v' → checkOf p (messageLent d v) [] ≡ Pass →
-    (encodingNumber r ≡ 0) ↔ Single (λ x. Carries (layoutOf p) x d)
+    EncodedBy p d (encodingNumber r)
 encoded-number p d v {r} e pass = (λ z. e .encoded-when pass .0 (encoded-zero r z), λ s. ap encodingNumber (e .encoded-when pass .1 s))
 
 read-zero : (r : Reading) → readingNumber r ≡ 0 → r ≡ reading.Read
 read-zero reading.Read e = refl
-read-zero reading.Crossed e = absurd (let f : _≡_ {A = ℕ} 5 0 = e in omega arith)
-read-zero (reading.Refused x) e = absurd (omega (arith, refusal-some x, e))
+read-zero reading.Crossed e = absurd (omega (arith, e))
+read-zero (reading.Refused x) e = absurd (omega (arith, number-some x, e))
 
 -- message_of's number is 0 exactly for codewords
 pub read-number : (p : Plan) (v d : List ℕ) {r : Reading} {d' : List ℕ} → Reads p v d r d' → checkOf p (messageLent d v) [] ≡ Pass →
-    (readingNumber r ≡ 0) ↔ Codeword (layoutOf p) v
+    ReadBy p v (readingNumber r)
 read-number p v d {r} e pass = (λ z. e .read-when pass .0 (read-zero r z), λ s. ap readingNumber (e .read-when pass .1 s))
 
 -- the message count of a plan is the number of its message places
@@ -101,15 +86,15 @@ counted : (p : Plan) → length (layoutOf p .sections) * layoutOf p .t - (2 * la
 unfolding layoutOf layout messageCount
 counted p = rw (length-upTo (p .n))
 
-some-section : (p : Plan) → verdictOf p ≡ verdict.Good → 0 < length (layoutOf p .sections)
+some-section : (p : Plan) → planCheck p ≡ Pass → 0 < length (layoutOf p .sections)
 unfolding layoutOf layout
-some-section p good = rw (length-upTo (p .n)) (omega (arith, good-bounds p good .size .n-least))
+some-section p good = rw (length-upTo (p .n)) (omega (arith, good-bounds p good .n-min))
 
 all-sections : (p : Plan) (j : ℕ) → j < layoutOf p .n → List·Memᴰ j (layoutOf p .sections)
 unfolding layoutOf layout
 all-sections p j h = ∈-upTo h
 
-pub message-count-is : (p : Plan) → verdictOf p ≡ verdict.Good → (l : List ℕ) → Lists (Message (layoutOf p)) l → length l ≡ messageCount (layoutOf p)
+pub message-count-is : (p : Plan) → planCheck p ≡ Pass → (l : List ℕ) → Lists (Message (layoutOf p)) l → length l ≡ messageCount (layoutOf p)
 message-count-is p good l h =
     let m = message-count (layoutOf p) (good-valid p good) (some-section p good) in
     ap length (lists-unique h (m .1)) ∙ m .2 ∙ counted p

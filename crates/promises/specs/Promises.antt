@@ -2,7 +2,7 @@
 -- p the plan, v the block, m the marks, w the witness list, each as lent; r the answer; v', w', .. the buffers as they are left.
 use mathlib.Core.Path.{_≡_}
 use mathlib.Core.Logic.{_↔_, _≢_}
-use mathlib.Core.List.{List, [], _++_}
+use mathlib.Core.List.{List, []}
 use Prim.Native.Nat.{ℕ, _-_, _*_, _≤_}
 use lib.ListN.{length, replicate}
 use Rattle.math.specs.Members.{_∈_}
@@ -19,8 +19,11 @@ use Rattle.code.specs.Messages.{Carries}
 use Rattle.calls.specs.Calls.{checkOf}
 use Rattle.calls.specs.declared.Part.the-variants.{Unlent, Of}
 use Rattle.calls.specs.declared.Lent.{Lent}
-use Rattle.calls.specs.declared.Refusal.{Refusal}
-use Rattle.calls.specs.declared.Check.the-variants.{Pass, Stop}
+use Rattle.refusals.specs.Refusals.{numberOf}
+use Rattle.refusals.specs.declared.Refusal.{Refusal}
+use Rattle.refusals.specs.declared.Refusal.the-variants as refusal
+use Rattle.refusals.specs.declared.Check.the-variants.{Pass, Stop}
+use Rattle.promises.specs.Answers.{recoveryNumber, recoveryCount, encodingNumber, readingNumber}
 use Rattle.promises.specs.declared.Recovery.{Recovery}
 use Rattle.promises.specs.declared.Recovery.the-variants.{Recovered, Crossed, Loose, Refused}
 use Rattle.promises.specs.declared.Encoding.{Encoding}
@@ -28,29 +31,37 @@ use Rattle.promises.specs.declared.Encoding.the-variants as encoding
 use Rattle.promises.specs.declared.Reading.{Reading}
 use Rattle.promises.specs.declared.Reading.the-variants as reading
 
+-- 01's number of recover's answer: success is 0, crossed 5, loose 6, each in its case and in no other
+pub record Numbered (L : Layout) (E v : List ℕ) (number : ℕ) : Type 0 where
+  pub success-when : (number ≡ 0) ↔ Single (Agrees L E v)
+  pub crossed-when : (number ≡ numberOf refusal.Crossed) ↔ None (Agrees L E v)
+  pub loose-when : (number ≡ numberOf refusal.Loose) ↔ TwoOrMore (Agrees L E v)
+
 -- Demand 3, of a block v with erasures E that passes refusals 1 to 4.
 pub record Decides (L : Layout) (E v : List ℕ) (r : Recovery) (v' w' : List ℕ) : Type 0 where
   -- "it is recovered exactly when a single codeword agrees with every unmarked symbol"
   pub recovered-when : (r ≡ Recovered) ↔ Single (Agrees L E v)
   -- "and then to that codeword"; "success: all zeros, count 0"
   pub recovered-to : r ≡ Recovered → Agrees L E v v'
-  pub recovered-list : r ≡ Recovered → w' ≡ replicate (2 * L .t) 0
+  pub recovered-list : r ≡ Recovered → (w' ≡ replicate (2 * L .t) 0) × (recoveryCount r ≡ 0)
   -- "refused as loose exactly when two or more agree"; block kept
   pub loose-when : ((z : ℕ) × (r ≡ Loose z)) ↔ TwoOrMore (Agrees L E v)
   pub loose-keeps : (z : ℕ) → r ≡ Loose z → v' ≡ v
   -- "a ring of marked symbols is shown": "the ring's places, then zeros; the count is z". Of several it is the one whose lowest place is highest.
   pub loose-shows : (z : ℕ) → r ≡ Loose z →
-      (l : List ℕ) × Cycle L E l × (z ≡ length l) × (w' ≡ padded (2 * L .t) l) × ((k : List ℕ) → Cycle L E k → at k 0 ≤ at l 0)
+      (l : List ℕ) × Cycle L E l × (recoveryCount r ≡ length l) × (w' ≡ padded (2 * L .t) l) × ((k : List ℕ) → Cycle L E k → at k 0 ≤ at l 0)
   -- "refused as crossed exactly when none agrees"; block kept
   pub crossed-when : ((z : ℕ) × (r ≡ Crossed z)) ↔ None (Agrees L E v)
   pub crossed-keeps : (z : ℕ) → r ≡ Crossed z → v' ≡ v
   -- "the rows shown are the joined group that document 01 names", "all its rows rising, then zeros; the count is their number";
   -- "whatever is put at the marked places, one of these rows doesn't sum to 0"
   pub crossed-shows : (z : ℕ) → r ≡ Crossed z →
-      (l : List ℕ) × Inconsistent L E (at v) l × (z ≡ length l) × (w' ≡ padded (2 * L .t) l)
+      (l : List ℕ) × Inconsistent L E (at v) l × (recoveryCount r ≡ length l) × (w' ≡ padded (2 * L .t) l)
       × ((x : ℕ → ℕ) → ((c : ℕ) → c ∈ places L → ¬ (c ∈ E) → x c ≡ at v c) → (s : ℕ) × (s ∈ l) × (syndrome L x s ≢ 0))
   -- 1 to 4 are answered in their own cases only
   pub not-refused : (x : Refusal) → r ≢ Refused x
+  -- 01's number of the answer
+  pub number : Numbered L E v (recoveryNumber r)
 
 -- what recover is lent
 unfoldable pub recoverLent : List ℕ → List ℕ → List ℕ → Lent
@@ -60,6 +71,13 @@ recoverLent v m w = record { block = Of (length v); marks = Of (length m); witne
 pub record Recovers (p : Plan) (v m w : List ℕ) (r : Recovery) (v' w' : List ℕ) : Type 0 where
   pub refused : (x : Refusal) → checkOf p (recoverLent v m w) m ≡ Stop x → (r ≡ Refused x) × (v' ≡ v) × (w' ≡ w)
   pub passed : checkOf p (recoverLent v m w) m ≡ Pass → Decides (layoutOf p) (erasures (layoutOf p) m) v r v' w'
+
+-- 01's number of encode's answer, and of message_of's: success is 0
+abbrev pub EncodedBy : Plan → List ℕ → ℕ → Type 0
+EncodedBy p d number = (number ≡ 0) ↔ Single (λ x. Carries (layoutOf p) x d)
+
+abbrev pub ReadBy : Plan → List ℕ → ℕ → Type 0
+ReadBy p v number = (number ≡ 0) ↔ Codeword (layoutOf p) v
 
 -- what encode and message_of are lent
 unfoldable pub messageLent : List ℕ → List ℕ → Lent
@@ -73,6 +91,7 @@ pub record Encodes (p : Plan) (d v : List ℕ) (r : Encoding) (v' : List ℕ) : 
   pub unsealed-when : checkOf p (messageLent d v) [] ≡ Pass → (r ≡ encoding.Unsealed) ↔ None (λ x. Carries (layoutOf p) x d)
   pub unsealed-keeps : r ≡ encoding.Unsealed → v' ≡ v
   pub not-refused : checkOf p (messageLent d v) [] ≡ Pass → (x : Refusal) → r ≢ encoding.Refused x
+  pub number : checkOf p (messageLent d v) [] ≡ Pass → EncodedBy p d (encodingNumber r)
 
 -- message_of: "every codeword is carried by one row of data, which reading hands back"; "a block that is no codeword is refused as crossed,
 -- with no list, and the data buffer stays"
@@ -83,3 +102,4 @@ pub record Reads (p : Plan) (v d : List ℕ) (r : Reading) (d' : List ℕ) : Typ
   pub crossed-when : checkOf p (messageLent d v) [] ≡ Pass → (r ≡ reading.Crossed) ↔ (¬ (Codeword (layoutOf p) v))
   pub crossed-keeps : r ≡ reading.Crossed → d' ≡ d
   pub not-refused : checkOf p (messageLent d v) [] ≡ Pass → (x : Refusal) → r ≢ reading.Refused x
+  pub number : checkOf p (messageLent d v) [] ≡ Pass → ReadBy p v (readingNumber r)

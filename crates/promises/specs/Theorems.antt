@@ -12,10 +12,9 @@ use Rattle.math.specs.Members.{_∈_}
 use Rattle.math.specs.MembersLaws.{∈-upTo, ∈-isIn, decIn}
 use Rattle.math.specs.SumsLaws.{xorOver-ext}
 use Rattle.plan.specs.Layout.{Layout, Valid, layout}
-use Rattle.plan.specs.Plans.{layoutOf, verdictOf}
+use Rattle.plan.specs.Plans.{layoutOf, planCheck}
 use Rattle.plan.specs.PlanLaws.{good-valid}
 use Rattle.plan.specs.declared.Plan.{Plan}
-use Rattle.plan.specs.declared.Verdict.the-variants as verdict
 use Rattle.code.specs.Codewords.{at, syndrome, Agrees, Single, TwoOrMore, None, blank}
 use Rattle.code.specs.Marks.{markBytes, NoSpare, erasures}
 use Rattle.code.specs.Cycles.{Cycle}
@@ -30,9 +29,10 @@ use Rattle.code.specs.Laws.Labels.{componentOf, component-unique}
 use Rattle.code.specs.Laws.MarksLaws.{erasures-erased}
 use Rattle.code.specs.Laws.Paths.{above-∈, erased-above}
 use Rattle.calls.specs.Calls.{checkOf}
-use Rattle.calls.specs.CallsLaws.{stop-or-pass}
-use Rattle.calls.specs.declared.Refusal.{Refusal}
-use Rattle.calls.specs.declared.Check.the-variants.{Pass, Stop}
+use Rattle.refusals.specs.RefusalLaws.{stop-or-pass}
+use Rattle.refusals.specs.declared.Refusal.{Refusal}
+use Rattle.refusals.specs.declared.Check.the-variants.{Pass, Stop}
+use Rattle.promises.specs.Answers.{recoveryCount}
 use Rattle.promises.specs.declared.Recovery.{Recovery}
 use Rattle.promises.specs.declared.Recovery.the-variants.{Recovered, Crossed, Loose, Refused}
 use Rattle.promises.specs.declared.Encoding.{Encoding}
@@ -150,7 +150,7 @@ decides-same L ok {E} {v} {x} er same {r} {s} d f = go r d f
         let a = d .recovered-when .0 refl in
         let e = f .recovered-when .1 (same-single same a) in (
           sym e,
-          d .recovered-list refl ∙ sym (f .recovered-list e),
+          d .recovered-list refl .0 ∙ sym (f .recovered-list e .0),
           λ _. a .only-one _ (d .recovered-to refl) ∙ sym (a .only-one _ (same-agrees (same-back same) (f .recovered-to e))),
         )
     go (Loose z) d f =
@@ -158,7 +158,7 @@ decides-same L ok {E} {v} {x} er same {r} {s} d f = go r d f
         let a = d .loose-shows z refl in
         let b = f .loose-shows (e .0) (e .1) in
         let u = shown-cycle-unique L ok er (a .1) (a .4) (b .1) (b .4) in (
-          ap Loose (a .2 ∙ ap length u ∙ sym (b .2)) ∙ sym (e .1),
+          ap Loose (a .2 ∙ ap length u ∙ sym (b .2) ∙ ap recoveryCount (e .1)) ∙ sym (e .1),
           a .3 ∙ ap (padded (2 * L .t)) u ∙ sym (b .3),
           λ q. absurd (Building.recovered-not-loose (sym q)),
         )
@@ -167,7 +167,7 @@ decides-same L ok {E} {v} {x} er same {r} {s} d f = go r d f
         let a = d .crossed-shows z refl in
         let b = f .crossed-shows (e .0) (e .1) in
         let u = same-component same (a .1) (b .1) in (
-          ap Crossed (a .2 ∙ ap length u ∙ sym (b .2)) ∙ sym (e .1),
+          ap Crossed (a .2 ∙ ap length u ∙ sym (b .2) ∙ ap recoveryCount (e .1)) ∙ sym (e .1),
           a .3 ∙ ap (padded (2 * L .t)) u ∙ sym (b .3),
           λ q. absurd (Building.recovered-not-crossed (sym q)),
         )
@@ -237,7 +237,7 @@ pub record LoosePair (p : Plan) (i j : ℕ) : Type 0 where
       checkOf p (recoverLent (replicate (p .n * p .t) 0) marks w) marks ≡ Pass → (z : ℕ) × (r ≡ Loose z)
 
 -- some 2t / gcd marks inside any two sections are loose on the zero block
-pub pair-some-loose : (p : Plan) → verdictOf p ≡ verdict.Good → (i j : ℕ) → i < p .n → j < p .n → i ≢ j → LoosePair p i j
+pub pair-some-loose : (p : Plan) → planCheck p ≡ Pass → (i j : ℕ) → i < p .n → j < p .n → i ≢ j → LoosePair p i j
 unfolding layoutOf layout
 pair-some-loose p good i j h g n =
     let L = layoutOf p in

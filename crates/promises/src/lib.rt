@@ -2,7 +2,7 @@
 // Entries: Recovery::number, Recovery::count, Encoding::number, Reading::number.
 ghost use mathlib.Core.Path.{_≡_};
 ghost use Rattle.promises.specs.Answers.{recoveryNumber, recoveryCount, encodingNumber, readingNumber};
-use calls::Refusal;
+use refusals::Refusal;
 
 pub enum Recovery {
     Recovered,
@@ -29,8 +29,8 @@ impl Recovery {
     {
         match self {
             Recovery::Recovered => 0,
-            Recovery::Crossed(_) => 5,
-            Recovery::Loose(_) => 6,
+            Recovery::Crossed(_) => Refusal::Crossed.number(),
+            Recovery::Loose(_) => Refusal::Loose.number(),
             Recovery::Refused(x) => x.number(),
         }
     }
@@ -54,7 +54,7 @@ impl Encoding {
     {
         match self {
             Encoding::Encoded => 0,
-            Encoding::Unsealed => 11,
+            Encoding::Unsealed => Refusal::Unsealed.number(),
             Encoding::Refused(x) => x.number(),
         }
     }
@@ -66,7 +66,7 @@ impl Reading {
     {
         match self {
             Reading::Read => 0,
-            Reading::Crossed => 5,
+            Reading::Crossed => Refusal::Crossed.number(),
             Reading::Refused(x) => x.number(),
         }
     }

@@ -1,11 +1,11 @@
 // The line of a turn put on a lent sheet behind those that stand there, and how far the job has come by it.
-// Entry: put_turn.
+// Public for the crate sheet only: put_turn.
 ghost use mathlib.Core.Path.{_≡_};
 ghost use Prim.Native.Nat.{_≤_};
 ghost use lib.ListN.{length};
 ghost use Rattle.putting.specs.Putting.{Put, Fits, Placed};
 use act::Held;
-use runs::parts::copy;
+use slices::copy_bytes;
 use turns::Step;
 use turns::Turn;
 
@@ -27,7 +27,7 @@ pub fn put_turn(step: Step, at: usize, line: &[u8], sheet: &mut [u8], to: usize)
     match turn {
         Turn::On(used, count) => put_line(held, at + used, line, count, sheet, to, 0),
         Turn::End(count) => put_line(held, at, line, count, sheet, to, 1),
-        Turn::Stop(count) => put_line(held, at, line, count, sheet, to, 1),
+        Turn::Stop(_, count) => put_line(held, at, line, count, sheet, to, 1),
         Turn::Wait => Reached {
             held,
             at,
@@ -65,7 +65,7 @@ fn put_line(
         };
     }
     let end = to + count;
-    copy(&line[..count], &mut sheet[to..end]);
+    copy_bytes(&line[..count], &mut sheet[to..end]);
     Reached {
         held,
         at,

@@ -1,5 +1,5 @@
 -- The laws of the cursor: what is at hand after bytes are used, after it is carried over, and after more are read behind it.
--- Main results: hand-start, hand-used, hand-carried, read-behind; used-none, used-past, used-some; carried-none, carried-some, carried-fits; Moved and its steps.
+-- Main results: hand-start, hand-used, hand-carried, read-behind; used-past, used-some; carried-none, carried-some, carried-fits; Moved and its steps.
 use mathlib.Core.Path.{_≡_, refl, sym, _∙_, ap}
 use mathlib.Core.Logic.{by-cases}
 use mathlib.Core.List.{List, [], _∷_, _++_}

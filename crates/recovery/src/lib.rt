@@ -1,19 +1,23 @@
 // Recovery: a block with erasures is filled, or the answer says why it cannot be.
 // Entry: recover.
 ghost use Prim.Native.Nat.{_≤_};
+ghost use Rattle.bounds.specs.Bounds.{maxT};
 ghost use Rattle.plan.specs.Layout.{layout};
 ghost use Rattle.code.specs.Marks.{erasures};
 ghost use Rattle.promises.specs.Promises.{Recovers, Decides};
 ghost use Rattle.deciding.specs.Attempts.{Given};
-use calls::Check;
 use calls::Lent;
 use calls::Part;
 use calls::check_call;
 use deciding::cut;
 use plan::Plan;
 use promises::Recovery;
+use refusals::Check;
 use whole::intact;
 use whole::recovered;
+
+// Tables that stand whole pages apart are slower: the large ones have some entries to spare.
+const SPARE: usize = 64;
 
 // Recovers the block, or leaves it as it is and says why; the witness list shows the answer's reason.
 pub fn recover(plan: Plan, block: &mut [u8], marks: &[u8], witness: &mut [u16]) -> Recovery
@@ -34,8 +38,7 @@ pub fn recover(plan: Plan, block: &mut [u8], marks: &[u8], witness: &mut [u16]) 
     }
 }
 
-// The language clears local arrays whole, so a small plan takes small tables. The large ones have some entries to spare: tables that stand whole pages apart
-// are slower.
+// The language clears local arrays whole, so a small plan takes small tables: two entries for each row of t.
 fn decide(
     n: usize,
     t: usize,
@@ -74,13 +77,13 @@ fn decide_small(
     requires { ⌜ t ≤ 32 ⌝ }
     ensures { λ r. ⌜ Decides (layout n t (now (shifts .entry))) (erasures (layout n t (now (shifts .entry))) (now (marks .entry))) (now (block .entry)) r (now (block .exit)) (now (witness .exit)) ⌝ }
 {
-    let mut sum = [0u8; 64];
+    let mut sum = [0u8; 2 * 32];
     if intact(n, t, shifts, &block[..], marks, &mut sum[..]) {
         return recovered(witness);
     }
-    let mut tally = [0u16; 64];
-    let mut place = [0u16; 64];
-    let mut value = [0u8; 64];
+    let mut tally = [0u16; 2 * 32];
+    let mut place = [0u16; 2 * 32];
+    let mut value = [0u8; 2 * 32];
     cut(
         n,
         t,
@@ -107,13 +110,13 @@ fn decide_medium(
     requires { ⌜ t ≤ 192 ⌝ }
     ensures { λ r. ⌜ Decides (layout n t (now (shifts .entry))) (erasures (layout n t (now (shifts .entry))) (now (marks .entry))) (now (block .entry)) r (now (block .exit)) (now (witness .exit)) ⌝ }
 {
-    let mut sum = [0u8; 384];
+    let mut sum = [0u8; 2 * 192];
     if intact(n, t, shifts, &block[..], marks, &mut sum[..]) {
         return recovered(witness);
     }
-    let mut tally = [0u16; 384];
-    let mut place = [0u16; 384];
-    let mut value = [0u8; 384];
+    let mut tally = [0u16; 2 * 192];
+    let mut place = [0u16; 2 * 192];
+    let mut value = [0u8; 2 * 192];
     cut(
         n,
         t,
@@ -140,13 +143,13 @@ fn decide_wide(
     requires { ⌜ t ≤ 512 ⌝ }
     ensures { λ r. ⌜ Decides (layout n t (now (shifts .entry))) (erasures (layout n t (now (shifts .entry))) (now (marks .entry))) (now (block .entry)) r (now (block .exit)) (now (witness .exit)) ⌝ }
 {
-    let mut sum = [0u8; 1088];
+    let mut sum = [0u8; 2 * 512 + SPARE];
     if intact(n, t, shifts, &block[..], marks, &mut sum[..]) {
         return recovered(witness);
     }
-    let mut tally = [0u16; 1088];
-    let mut place = [0u16; 1088];
-    let mut value = [0u8; 1088];
+    let mut tally = [0u16; 2 * 512 + SPARE];
+    let mut place = [0u16; 2 * 512 + SPARE];
+    let mut value = [0u8; 2 * 512 + SPARE];
     cut(
         n,
         t,
@@ -173,13 +176,13 @@ fn decide_wider(
     requires { ⌜ t ≤ 1024 ⌝ }
     ensures { λ r. ⌜ Decides (layout n t (now (shifts .entry))) (erasures (layout n t (now (shifts .entry))) (now (marks .entry))) (now (block .entry)) r (now (block .exit)) (now (witness .exit)) ⌝ }
 {
-    let mut sum = [0u8; 2112];
+    let mut sum = [0u8; 2 * 1024 + SPARE];
     if intact(n, t, shifts, &block[..], marks, &mut sum[..]) {
         return recovered(witness);
     }
-    let mut tally = [0u16; 2112];
-    let mut place = [0u16; 2112];
-    let mut value = [0u8; 2112];
+    let mut tally = [0u16; 2 * 1024 + SPARE];
+    let mut place = [0u16; 2 * 1024 + SPARE];
+    let mut value = [0u8; 2 * 1024 + SPARE];
     cut(
         n,
         t,
@@ -203,16 +206,16 @@ fn decide_large(
     witness: &mut [u16],
 ) -> Recovery
     requires { ⌜ Given n t (now shifts) (now block) (now marks) (now witness) ⌝ }
-    requires { ⌜ t ≤ 2048 ⌝ }
+    requires { ⌜ t ≤ maxT ⌝ }
     ensures { λ r. ⌜ Decides (layout n t (now (shifts .entry))) (erasures (layout n t (now (shifts .entry))) (now (marks .entry))) (now (block .entry)) r (now (block .exit)) (now (witness .exit)) ⌝ }
 {
-    let mut sum = [0u8; 4160];
+    let mut sum = [0u8; 2 * Plan::MAX_T + SPARE];
     if intact(n, t, shifts, &block[..], marks, &mut sum[..]) {
         return recovered(witness);
     }
-    let mut tally = [0u16; 4160];
-    let mut place = [0u16; 4160];
-    let mut value = [0u8; 4160];
+    let mut tally = [0u16; 2 * Plan::MAX_T + SPARE];
+    let mut place = [0u16; 2 * Plan::MAX_T + SPARE];
+    let mut value = [0u8; 2 * Plan::MAX_T + SPARE];
     cut(
         n,
         t,

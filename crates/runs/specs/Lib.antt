@@ -1,4 +1,3 @@
 -- The runs of message places: what they are, and the laws by which they are computed and copied.
-pub mod Sized
 pub mod Runs
 pub mod Laws

@@ -3,6 +3,7 @@ use mathlib.Core.Path.{_≡_}
 use mathlib.Core.List.{List, map}
 use Prim.Native.Nat.{ℕ, _*_, _≤_, _<_}
 use lib.ListN.{length, getD}
+use Rattle.bounds.specs.Bounds.{maxPlaces}
 use Rattle.math.specs.Members.{_∈_, upTo}
 use Rattle.plan.specs.Layout.{Layout, Valid, messageCount}
 use Rattle.code.specs.Laws.Forest.{runOf}
@@ -15,7 +16,7 @@ pub record RunsOf (n t : ℕ) (L : Layout) (runs : List ℕ) : Type 0 where
   pub valid : Valid L
   pub all : L .sections ≡ upTo n
   pub some : 0 < n
-  pub small : n * t ≤ 32768
+  pub small : n * t ≤ maxPlaces
   pub long : n ≤ length runs
   pub exact : (j : ℕ) → getD runs j 0 ≡ runOf L j
 

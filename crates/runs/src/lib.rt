@@ -1,6 +1,5 @@
 // The runs of message places: of each section the number of its first places that carry the message.
-// Entries: runs, gather, spread.
-// The module parts is public for the crates above only.
+// Public for the crates above only.
 ghost use mathlib.Core.Path.{_≡_};
 ghost use Prim.Native.Nat.{_+_, _*_, _/_, _≤_};
 ghost use mathlib.Core.List.{map};
@@ -8,17 +7,17 @@ ghost use lib.ListN.{length, getD, replicate};
 ghost use Rattle.math.specs.Gcd.{gcd as gcdOf};
 ghost use Rattle.code.specs.Laws.ParityCount.{messages};
 ghost use Rattle.plan.specs.Layout.{Layout, layout};
-ghost use Rattle.runs.specs.Sized.{Sized};
+ghost use Rattle.plan.specs.GoodPlan.{GoodPlan};
 ghost use Rattle.runs.specs.Runs.{RunsOf, Runs, Lent, Full, Spread};
 use shifts::gap;
 use shifts::gcd;
 use shifts::wide;
-
-pub mod parts;
+use slices::clear_bytes;
+use slices::copy_bytes;
 
 // From the last section down, with the divisor of the differences so far; into zeros.
 pub fn runs(n: usize, t: usize, shifts: &[u16], r: &mut [u16])
-    requires { ⌜ Sized n t (now shifts) × (now r ≡ replicate 32 0) ⌝ }
+    requires { ⌜ GoodPlan n t (now shifts) × (now r ≡ replicate 32 0) ⌝ }
     ensures { λ _. ⌜ RunsOf n t (layout n t (now (shifts .entry))) (now (r .exit)) ⌝ }
 {
     let last = wide(shifts[n - 1]);
@@ -65,12 +64,12 @@ pub fn gather(n: usize, t: usize, runs: &[u16], block: &[u8], message: &mut [u8]
     let mut j = full(n, t, runs);
     let mut from = j * t;
     let mut done = from;
-    parts::copy(&block[0..done], &mut message[0..done]);
+    copy_bytes(&block[0..done], &mut message[0..done]);
     while j < n {
         let run = wide(runs[j]);
         let end = from + run;
         let next = done + run;
-        parts::copy(&block[from..end], &mut message[done..next]);
+        copy_bytes(&block[from..end], &mut message[done..next]);
         from += t;
         done = next;
         j += 1;
@@ -85,14 +84,14 @@ pub fn spread(n: usize, t: usize, runs: &[u16], message: &[u8], block: &mut [u8]
     let mut j = full(n, t, runs);
     let mut from = j * t;
     let mut done = from;
-    parts::copy(&message[0..done], &mut block[0..done]);
+    copy_bytes(&message[0..done], &mut block[0..done]);
     while j < n {
         let run = wide(runs[j]);
         let end = from + run;
         let next = done + run;
         let stop = from + t;
-        parts::copy(&message[done..next], &mut block[from..end]);
-        parts::clear(&mut block[end..stop]);
+        copy_bytes(&message[done..next], &mut block[from..end]);
+        clear_bytes(&mut block[end..stop]);
         from = stop;
         done = next;
         j += 1;

@@ -1,5 +1,4 @@
 // The four results of document 01's example, by the library: loose, recovered, a symbol, crossed.
-use calls::Counted;
 use libc::STDOUT_FILENO;
 use plan::Plan;
 use promises::Recovery;
@@ -35,10 +34,8 @@ fn list(l: &[u16], k: usize) {
 
 // The number of marked places.
 fn marked(plan: Plan, marks: &[u8; 3]) -> usize {
-    match calls::erasure_count(plan, &marks[..]) {
-        Counted::Marks(z) => z,
-        Counted::Refused(_) => 0,
-    }
+    let count = calls::erasure_count(plan, &marks[..]);
+    count.value()
 }
 
 // One recovery and its line.

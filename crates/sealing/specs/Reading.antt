@@ -8,7 +8,7 @@ use lib.ListN.{length, getD, take, length-append}
 use lib.Seq.{take-at}
 use Rattle.plan.specs.Layout.{layout}
 use Rattle.code.specs.Codewords.{Codeword}
-use Rattle.settling.specs.Fill.{allZero, allZero-at, at-allZero}
+use Rattle.slices.specs.Zeros.{allZero, allZero-at, at-allZero}
 use mathlib.Core.Bool.{Bool, true, false, true≢false}
 use Rattle.sums.specs.SumLaws.{Syndromes}
 

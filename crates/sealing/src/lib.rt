@@ -3,30 +3,31 @@
 ghost use mathlib.Core.Path.{_≡_};
 ghost use Prim.Native.Nat.{_*_, _≤_};
 ghost use lib.ListN.{length, replicate};
+ghost use Rattle.bounds.specs.Bounds.{maxT};
 ghost use Rattle.plan.specs.Layout.{layout, messageCount};
+ghost use Rattle.plan.specs.GoodPlan.{GoodPlan};
 ghost use Rattle.code.specs.Codewords.{Codeword};
 ghost use Rattle.code.specs.Messages.{Carries};
-ghost use Rattle.tables.specs.Picture.{Sized};
 ghost use Rattle.runs.specs.Laws.Fronts.{total};
 ghost use Rattle.promises.specs.Promises.{Encodes, Reads};
 ghost use Rattle.sealing.specs.Reading.{Tells};
 ghost use Rattle.tables.specs.Zeros.{Zeros};
 ghost use Rattle.parities.specs.Settling.{Sealable};
 ghost use Rattle.sealing.specs.Passing.{Checks};
-use calls::Check;
 use calls::Lent;
 use calls::Part;
-use calls::Refusal;
-use calls::check_call;
+use calls::check_lent;
+use calls::lengths_fit;
 use parities::fill_parities;
 use plan::Plan;
 use promises::Encoding;
 use promises::Reading;
+use refusals::Check;
 use runs::gather;
 use runs::runs;
 use runs::spread;
-use settling::zeros::zero_bytes;
 use shifts::wide;
+use slices::zero_bytes;
 use sums::syndromes;
 
 // The sum of the first n runs.
@@ -43,8 +44,7 @@ fn run_total(n: usize, runs: &[u16]) -> usize
     sum
 }
 
-// A call with a message and a block, and no marks. The message has as many symbols as the runs have places; where the call passes, the runs are put
-// into zeros.
+// What refuses a call with a message and a block, and no marks. The runs of a good plan are put into zeros: they say how many message places there are.
 fn check(plan: Plan, message: &[u8], block: &[u8], r: &mut [u16]) -> Check
     requires { ⌜ now r ≡ replicate 32 0 ⌝ }
     ensures { λ k. ⌜ Checks plan (now (message .entry)) (now (block .entry)) k (now (r .exit)) ⌝ }
@@ -53,18 +53,17 @@ fn check(plan: Plan, message: &[u8], block: &[u8], r: &mut [u16]) -> Check
         block: Part::Of(block.len()),
         marks: Part::Unlent,
         witness: Part::Unlent,
-        message: Part::Unlent,
+        message: Part::Of(message.len()),
     };
     let n = plan.n;
+    let t = plan.t;
     let s = plan.shifts;
-    match check_call(plan, lent, &message[0..0]) {
+    match plan.check() {
         Check::Stop(x) => Check::Stop(x),
         Check::Pass => {
-            runs(n, plan.t, &s[..], &mut r[..]);
-            if run_total(n, &r[..]) != message.len() {
-                return Check::Stop(Refusal::Length);
-            }
-            Check::Pass
+            runs(n, t, &s[..], &mut r[..]);
+            let fits = lengths_fit(n, t, run_total(n, &r[..]), lent);
+            check_lent(fits, n * t, &message[0..0])
         }
     }
 }
@@ -97,7 +96,7 @@ pub fn encode(plan: Plan, message: &[u8], block: &mut [u8]) -> Encoding
 
 // Whether every row of the block sums to 0, by a table of zeros. There are no erasures, so none is left.
 fn rows_clean(n: usize, t: usize, shifts: &[u16], block: &[u8], sum: &mut [u8]) -> bool
-    requires { ⌜ Sized n t (now shifts) × (length (now block) ≡ n * t) ⌝ }
+    requires { ⌜ GoodPlan n t (now shifts) × (length (now block) ≡ n * t) ⌝ }
     requires { ⌜ Zeros (2 * t) (now sum) ⌝ }
     ensures { λ r. ⌜ Tells (Codeword (layout n t (now (shifts .entry))) (now (block .entry))) r ⌝ }
 {
@@ -107,35 +106,35 @@ fn rows_clean(n: usize, t: usize, shifts: &[u16], block: &[u8], sum: &mut [u8]) 
 }
 
 fn clean_small(n: usize, t: usize, shifts: &[u16], block: &[u8]) -> bool
-    requires { ⌜ Sized n t (now shifts) × (length (now block) ≡ n * t) ⌝ }
+    requires { ⌜ GoodPlan n t (now shifts) × (length (now block) ≡ n * t) ⌝ }
     requires { ⌜ t ≤ 32 ⌝ }
     ensures { λ r. ⌜ Tells (Codeword (layout n t (now (shifts .entry))) (now (block .entry))) r ⌝ }
 {
-    let mut sum = [0u8; 64];
+    let mut sum = [0u8; 2 * 32];
     rows_clean(n, t, shifts, block, &mut sum[..])
 }
 
 fn clean_medium(n: usize, t: usize, shifts: &[u16], block: &[u8]) -> bool
-    requires { ⌜ Sized n t (now shifts) × (length (now block) ≡ n * t) ⌝ }
+    requires { ⌜ GoodPlan n t (now shifts) × (length (now block) ≡ n * t) ⌝ }
     requires { ⌜ t ≤ 256 ⌝ }
     ensures { λ r. ⌜ Tells (Codeword (layout n t (now (shifts .entry))) (now (block .entry))) r ⌝ }
 {
-    let mut sum = [0u8; 512];
+    let mut sum = [0u8; 2 * 256];
     rows_clean(n, t, shifts, block, &mut sum[..])
 }
 
 fn clean_large(n: usize, t: usize, shifts: &[u16], block: &[u8]) -> bool
-    requires { ⌜ Sized n t (now shifts) × (length (now block) ≡ n * t) ⌝ }
-    requires { ⌜ t ≤ 2048 ⌝ }
+    requires { ⌜ GoodPlan n t (now shifts) × (length (now block) ≡ n * t) ⌝ }
+    requires { ⌜ t ≤ maxT ⌝ }
     ensures { λ r. ⌜ Tells (Codeword (layout n t (now (shifts .entry))) (now (block .entry))) r ⌝ }
 {
-    let mut sum = [0u8; 4096];
+    let mut sum = [0u8; 2 * Plan::MAX_T];
     rows_clean(n, t, shifts, block, &mut sum[..])
 }
 
 // The row test, with a table of the plan's size.
 fn is_codeword(n: usize, t: usize, shifts: &[u16], block: &[u8]) -> bool
-    requires { ⌜ Sized n t (now shifts) × (length (now block) ≡ n * t) ⌝ }
+    requires { ⌜ GoodPlan n t (now shifts) × (length (now block) ≡ n * t) ⌝ }
     ensures { λ r. ⌜ Tells (Codeword (layout n t (now (shifts .entry))) (now (block .entry))) r ⌝ }
 {
     if t <= 32 {

@@ -8,15 +8,16 @@ use Prim.Native.Nat.{ℕ, zero, suc, _+_, _/_, _≤_, _<_}
 use native.Mathlib.Decide.{ℕ-discrete}
 use native.Mathlib.Numerals.{add-one}
 use native.Mathlib.Omega.{arith}
-use lib.Bits.{bitOr, or-add-and, or-zero-l, and-le-l, and-le-r}
+use lib.Bits.{bitOr}
 use lib.Dec.{eqb}
 use mir.Val.{boolByte}
 use lib.ListN.{length, getD, set, length-set}
 use lib.Seq.{getD-set-same, getD-set-other}
-use borrow.Author.Count.{below-more}
-use borrow.Author.Tests.{eqb-true, eq-eqb, ne-eqb}
+use borrow.Author.Tests.{eq-eqb}
 use Rattle.math.specs.MembersLaws.{by-test}
 use Rattle.math.specs.Xor.{_⊕_}
+use Rattle.slices.specs.Zeros.{allZero, allZero-at, at-allZero, Gathers, gathers-more}
+use Rattle.tables.specs.Picture.{tallyUnit}
 
 -- the block with the first k values added at the first k places
 unfoldable pub filled : List ℕ → List ℕ → List ℕ → ℕ → List ℕ
@@ -41,14 +42,14 @@ filled-long block place value (suc k) =
     let b = filled block place value k in
     length-set b (getD place k 0) (getD b (getD place k 0) 0 ⊕ getD value k 0) ∙ filled-long block place value k
 
--- the turn of `fill` at place i
-module _ (block place value : List ℕ) {now : List ℕ} (i : ℕ) (e : now ≡ filled block place value i) where
-  pub filled-next : set now (getD place i 0) (getD now (getD place i 0) 0 ⊕ getD value i 0) ≡ filled block place value (i + 1)
+-- the turn of `fill` at entry i, which is place c
+module _ (block place value : List ℕ) {now : List ℕ} (i : ℕ) (e : now ≡ filled block place value i) {c : ℕ} (ec : c ≡ getD place i 0) where
+  pub filled-next : set now c (getD now c 0 ⊕ getD value i 0) ≡ filled block place value (i + 1)
   unfolding filled
-  filled-next = rw add-one (ap (λ b. set b (getD place i 0) (getD b (getD place i 0) 0 ⊕ getD value i 0)) e)
+  filled-next = rw (add-one, ec) (ap (λ b. set b (getD place i 0) (getD b (getD place i 0) 0 ⊕ getD value i 0)) e)
 
-  pub filled-inside : {k : ℕ} → Fillable block place value k → i < k → getD place i 0 < length now
-  filled-inside f h = rw (e, filled-long block place value i) (f .inside i h)
+  pub filled-inside : {k : ℕ} → Fillable block place value k → i < k → c < length now
+  filled-inside f h = rw (e, filled-long block place value i, ec) (f .inside i h)
 
 -- away from the places the block is as it was
 pub filled-out : (block place value : List ℕ) (k : ℕ) {c : ℕ} → ((i : ℕ) → i < k → getD place i 0 ≢ c)
@@ -88,25 +89,9 @@ pub filled-at : (block place value : List ℕ) (x : ℕ → ℕ) (k : ℕ) → (
 filled-at block place value x k l once v {c} m =
     subst (λ d. getD (filled block place value k) d 0 ≡ x d) (m .2) (filled-in block place value x k l once v (m .0) (m .1))
 
--- every number of the list is 0
-unfoldable pub allZero : List ℕ → Bool
-allZero [] = true
-allZero (x ∷ l) = eqb x 0 && allZero l
-
-pub allZero-at : (l : List ℕ) → allZero l ≡ true → (i : ℕ) → getD l i 0 ≡ 0
-unfolding allZero
-allZero-at [] e i = refl
-allZero-at (x ∷ l) e zero = by-test (eqb x 0) (λ t. eqb-true x 0 t) (λ f. absurd (true≢false (sym (rw f at e))))
-allZero-at (x ∷ l) e (suc i) = by-test (eqb x 0) (λ t. allZero-at l (rw t at e) i) (λ f. absurd (true≢false (sym (rw f at e))))
-
-pub at-allZero : (l : List ℕ) → ((i : ℕ) → i < length l → getD l i 0 ≡ 0) → allZero l ≡ true
-unfolding allZero
-at-allZero [] h = refl
-at-allZero (x ∷ l) h = rw (eq-eqb x 0 (h 0 (omega arith))) (at-allZero l (λ i k. h (suc i) (omega arith)))
-
 -- 1 for a tally that counts exactly one, else 0
 abbrev pub one : ℕ → ℕ
-one x = boolByte (eqb (x / 1024) 1)
+one x = boolByte (eqb (x / tallyUnit) 1)
 
 pub one-at : (l : List ℕ) (i : ℕ) → getD (map one l) i 0 ≡ one (getD l i 0)
 one-at [] i = refl
@@ -114,10 +99,10 @@ one-at (x ∷ l) zero = refl
 one-at (x ∷ l) (suc i) = one-at l i
 
 -- tallies of which none counts exactly one
-pub no-ones-at : (l : List ℕ) → allZero (map one l) ≡ true → (i : ℕ) → getD l i 0 / 1024 ≢ 1
+pub no-ones-at : (l : List ℕ) → allZero (map one l) ≡ true → (i : ℕ) → getD l i 0 / tallyUnit ≢ 1
 no-ones-at l e i q =
     let z : one (getD l i 0) ≡ 0 = sym (one-at l i) ∙ allZero-at (map one l) e i in
-    let o : one (getD l i 0) ≡ 1 = rw (eq-eqb (getD l i 0 / 1024) 1 q) refl in
+    let o : one (getD l i 0) ≡ 1 = rw (eq-eqb (getD l i 0 / tallyUnit) 1 q) refl in
     omega (arith, sym z ∙ o)
 
 -- no row has a sum, and none an erasure left
@@ -143,28 +128,6 @@ not-clean sum tally f = rw f
 pub clean-rest : (sum tally : List ℕ) → allZero sum ≡ true → cleanOf sum tally ≡ allZero tally
 unfolding cleanOf
 clean-rest sum tally t = rw t
-
--- acc is the or of the first i numbers, as far as 0 goes
-pub record Gathers (l : List ℕ) (i acc : ℕ) : Type 0 where
-  pub zeros : acc ≡ 0 → (k : ℕ) → k < i → getD l k 0 ≡ 0
-  pub zero : ((k : ℕ) → k < i → getD l k 0 ≡ 0) → acc ≡ 0
-
-pub gathers-none : (l : List ℕ) → Gathers l 0 0
-gathers-none l = record { zeros = λ e k h. absurd (omega arith); zero = λ h. refl }
-
-pub gathers-more : {l : List ℕ} {i acc : ℕ} → Gathers l i acc → Gathers l (i + 1) (bitOr acc (getD l i 0))
-gathers-more {l} {i} {acc} g = record {
-  zeros = λ e.
-      let s : bitOr acc (getD l i 0) + _ ≡ acc + getD l i 0 = or-add-and acc (getD l i 0) in
-      below-more _ i (g .zeros (omega (arith, and-le-r acc (getD l i 0)))) (omega (arith, and-le-l acc (getD l i 0)));
-  zero = λ h. rw (g .zero (λ k m. h k (omega arith)), h i (omega arith)) (or-zero-l 0);
-}
-
-pub gathers-all : {l : List ℕ} {i acc : ℕ} → Gathers l i acc → length l ≤ i → eqb acc 0 ≡ allZero l
-gathers-all {l} {i} {acc} g h =
-    by-test (allZero l)
-    (λ t. eq-eqb acc 0 (g .zero (λ k _. allZero-at l t k)) ∙ sym t)
-    (λ f. ne-eqb acc 0 (λ e. true≢false (sym (at-allZero l (λ k m. g .zeros e k (omega arith))) ∙ f)) ∙ sym f)
 
 -- the tests of one number more
 pub gathers-ones : (l : List ℕ) {i acc : ℕ} → Gathers (map one l) i acc → Gathers (map one l) (i + 1) (bitOr acc (one (getD l i 0)))

@@ -6,7 +6,7 @@ use mathlib.Core.Path.{_≡_, refl, sym, _∙_, ap, subst}
 use mathlib.Core.Logic.{_≢_, by-cases}
 use mathlib.Core.Bool.{true}
 use mathlib.Core.List.{List, map}
-use Prim.Native.Nat.{ℕ, _+_, _-_, _/_, _≤_, _<_}
+use Prim.Native.Nat.{ℕ, _+_, _-_, _*_, _/_, _≤_, _<_}
 use native.Mathlib.Nat.{le-antisymm}
 use native.Mathlib.Decide.{ℕ-discrete, decLt}
 use native.Mathlib.Omega.{arith}
@@ -15,11 +15,13 @@ use lib.ListN.{length, getD, set, take, drop, length-set}
 use borrow.Author.Tests.{eq-eqb, ne-eqb}
 use mir.Val.{boolByte}
 use lib.Seq.{getD-set-same, getD-set-other, getD-take, getD-drop}
+use Rattle.slices.specs.Zeros.{allZero}
+use Rattle.bounds.specs.Bounds.{maxT}
 use Rattle.math.specs.Members.{upTo, without}
 use Rattle.math.specs.MembersLaws.{∈-upTo, length-upTo, ∈-without, length-without-lt}
 use Rattle.math.specs.Pigeonhole.{injection-length}
-use Rattle.tables.specs.Picture.{counts}
-use Rattle.settling.specs.Fill.{allZero, one, no-ones-at}
+use Rattle.tables.specs.Picture.{tallyUnit, counts}
+use Rattle.settling.specs.Fill.{one, no-ones-at}
 
 -- row r stands in the queue between the head and the tail
 abbrev pub Standing : List ℕ → ℕ → ℕ → ℕ → Type 0
@@ -91,7 +93,7 @@ pub record Sweepable (tally queue : List ℕ) (i j tail : ℕ) : Type 0 where
   pub order : i ≤ j
   pub tally-long : j ≤ length tally
   pub queue-long : j ≤ length queue
-  pub few : j ≤ 4096
+  pub few : j ≤ 2 * maxT
 
 -- the rows below i are scanned, row i is next
 pub seeds : {tally queue : List ℕ} {i tail : ℕ} → Queued tally queue i 0 tail → Waits tally queue (i + 1) 0 tail i
@@ -178,14 +180,15 @@ module _ {tally queue : List ℕ} {i j tail : ℕ} (w : Sweepable tally queue i 
   pub sweep-room : i < j → tail < length queue
   sweep-room h = omega (arith, full (w .queued), w .queue-long)
 
-  pub sweep-more : i < j → {rest : ℕ} → rest ≡ counts tally i → Sweepable tally (set queue tail i) (i + 1) j (tail + boolByte (eqb rest 1))
-  sweep-more h {rest} e = record {
+  pub sweep-more : i < j → {queue' : List ℕ} {rest : ℕ} → queue' ≡ set queue tail i → rest ≡ counts tally i
+      → Sweepable tally queue' (i + 1) j (tail + boolByte (eqb rest 1))
+  sweep-more h {rest = rest} f e = rw f (record {
     queued = entered (seeds (w .queued)) (λ _. sweep-room h) e (stored queue tail i rest);
     order = omega arith;
     tally-long = w .tally-long;
     queue-long = rw (length-set queue tail i) (w .queue-long);
     few = w .few;
-  }
+  })
 
   pub sweep-end : j ≤ i → Queued tally queue j 0 tail
   sweep-end h = subst (λ i. Queued tally queue i 0 tail) (le-antisymm (w .order) h) (w .queued)
@@ -200,7 +203,7 @@ module _ {tally queue : List ℕ} {i j tail : ℕ} (w : Sweepable tally queue i 
           let k : r - i < j - i = omega arith in
           let m : i + (r - i) ≡ r = omega arith in
           let e : getD (take (j - i) (drop i tally)) (r - i) 0 ≡ getD tally (i + (r - i)) 0 = getD-take (j - i) (drop i tally) (r - i) 0 k ∙ getD-drop i tally (r - i) 0 in
-          no-ones-at (take (j - i) (drop i tally)) z (r - i) (ap (λ y. y / 1024) (e ∙ ap (λ y. getD tally y 0) m) ∙ q)
+          no-ones-at (take (j - i) (drop i tally)) z (r - i) (ap (λ y. y / tallyUnit) (e ∙ ap (λ y. getD tally y 0) m) ∙ q)
 
   -- sweeping the rows up to k first
   pub sweep-part : {k : ℕ} → i ≤ k → k ≤ j → Sweepable tally queue i k tail

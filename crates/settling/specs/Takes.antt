@@ -11,14 +11,16 @@ use Rattle.math.specs.Members.{_∈_, without}
 use Rattle.math.specs.MembersLaws.{upTo-∈, rising-distinct}
 use Rattle.math.specs.Xor.{_⊕_, ⊕-self, ⊕-lt}
 use Rattle.math.specs.SumsLaws.{only-true}
+use Rattle.bounds.specs.Bounds.{maxT, maxPlaces}
 use Rattle.plan.specs.Layout.{Layout, layout, top, bottom}
+use Rattle.plan.specs.GoodPlan.{GoodPlan, plan-valid}
 use Rattle.code.specs.Places.{places, Meets}
 use Rattle.code.specs.Codewords.{syndrome}
 use Rattle.code.specs.Checks.{update}
 use Rattle.code.specs.Laws.Basics.{places-∈, meets-true, top≢bottom, meets-row}
-use Rattle.tables.specs.Picture.{Sized, weight, counts, Picture, Pictured}
+use Rattle.tables.specs.Picture.{tallyUnit, weight, counts, Picture, Pictured}
 use Rattle.tables.specs.PictureLaws.{Touched, length-onRow-without, picture-less}
-use Rattle.tables.specs.Sizes.{sized-valid, sized-∈}
+use Rattle.tables.specs.Sizes.{sized-∈}
 use Rattle.tables.specs.Bounds.{tally-counts, tally-some}
 use Rattle.tables.specs.StuckLaws.{onRow-some}
 use Rattle.tables.specs.Beside.{Beside, beside-place, beside-sides}
@@ -51,18 +53,18 @@ module _ {sum tally : List ℕ} {a b v : ℕ} (h : Rows sum tally a b v) where
   rows-some = rw (getD-set-other tally a b 0 0 (λ q. h .apart (sym q))) (h .some-other)
 
   pub removes : {sum' tally' : List ℕ} {x own rest : ℕ} → sum' ≡ set (set sum a 0) b (getD (set sum a 0) b 0 ⊕ x)
-      → own ≡ getD (set tally a 0) b 0 - v → tally' ≡ set (set tally a 0) b own → rest ≡ own / 1024
+      → own ≡ getD (set tally a 0) b 0 - v → tally' ≡ set (set tally a 0) b own → rest ≡ own / tallyUnit
       → Removes sum tally sum' tally' a b v x rest
   unfolding counts
   removes {own = own} s o l r = record {
     sums = s;
     tallies = l ∙ ap (set (set tally a 0) b) o;
-    rests = r ∙ ap (λ y. y / 1024) (rw l (sym (getD-set-same (set tally a 0) b own 0 rows-tally)));
+    rests = r ∙ ap (λ y. y / tallyUnit) (rw l (sym (getD-set-same (set tally a 0) b own 0 rows-tally)));
   }
 
 -- row r has one erasure left
 pub record One (n t : ℕ) (shifts sum tally : List ℕ) (r : ℕ) : Type 0 where
-  pub sized : Sized n t shifts
+  pub sized : GoodPlan n t shifts
   pub pictured : Pictured (layout n t shifts) sum tally
   pub row : r < 2 * t
   pub left-one : counts tally r ≡ 1
@@ -87,7 +89,7 @@ module _ {n t : ℕ} {shifts sum tally : List ℕ} {r : ℕ} (o : One n t shifts
 
   -- the tally says its section
   its-section : {E : List ℕ} {u : ℕ → ℕ} (p : Picture (layout n t shifts) E u sum tally)
-      → (only-one p .0 / t < n) × (only-one p .0 / t ≡ getD tally r 0 - 1024)
+      → (only-one p .0 / t < n) × (only-one p .0 / t ≡ getD tally r 0 - tallyUnit)
   unfolding layout weight
   its-section p =
       let s = only-one p .1 in
@@ -98,15 +100,15 @@ module _ {n t : ℕ} {shifts sum tally : List ℕ} {r : ℕ} (o : One n t shifts
   unfolding layout
   one-long = let p = o .pictured .picture in (omega (arith, o .row, p .sum-long), omega (arith, o .row, p .counted .long))
 
-  pub one-few : r < 4096
+  pub one-few : r < 2 * maxT
   one-few = omega (arith, o .row, o .sized .t-max)
 
-  pub one-small : (1024 ≤ getD tally r 0) × (getD tally r 0 < 2048)
+  pub one-small : (tallyUnit ≤ getD tally r 0) × (getD tally r 0 < 2 * tallyUnit)
   unfolding counts
   one-small = omega (arith, o .left-one)
 
   -- j is the section
-  module _ {j : ℕ} (ej : j ≡ getD tally r 0 - 1024) where
+  module _ {j : ℕ} (ej : j ≡ getD tally r 0 - tallyUnit) where
     pub one-shift : (j < length shifts) × (getD shifts j 0 < t)
     one-shift =
         let i = its-section (o .pictured .picture) in
@@ -121,7 +123,7 @@ module _ {n t : ℕ} {shifts sum tally : List ℕ} {r : ℕ} (o : One n t shifts
           subst (λ d. Single (layout n t shifts) E r (getD tally r 0) d)
           (sym (beside-place (o .sized) (s .1 .inside) (s .1 .meet) (its-section p .1 ∙ sym ej) q)) (s .1)
 
-      pub one-place : j * t + k < 32768
+      pub one-place : j * t + k < maxPlaces
       one-place = omega (arith, sized-∈ (o .sized) (spot (o .pictured .picture) .inside), o .sized .places-max)
 
       module _ {c : ℕ} (ec : c ≡ j * t + k) where
@@ -149,12 +151,15 @@ module _ {n t : ℕ} {shifts sum tally : List ℕ} {r : ℕ} (o : One n t shifts
 
         r≢b : r ≢ b
         r≢b e =
-            let n = top≢bottom (layout n t shifts) (sized-valid (o .sized)) c c in
+            let n = top≢bottom (layout n t shifts) (plan-valid (o .sized)) c c in
             ⊎-elim (λ h. n (sym (h .0) ∙ e ∙ h .1)) (λ h. n (sym (h .1) ∙ sym e ∙ h .0)) sides
 
         row-b : b < 2 * t
         unfolding layout
-        row-b = meets-row (layout n t shifts) (sized-valid (o .sized)) c other-meets
+        row-b = meets-row (layout n t shifts) (plan-valid (o .sized)) c other-meets
+
+        pub one-other : b < 2 * maxT
+        one-other = omega (arith, row-b, o .sized .t-max)
 
         pub one-rows : Rows sum tally r b (getD tally r 0)
         unfolding layout
@@ -165,7 +170,7 @@ module _ {n t : ℕ} {shifts sum tally : List ℕ} {r : ℕ} (o : One n t shifts
               tally-row = one-long .1;
               sum-other = omega (arith, row-b, p .sum-long);
               tally-other = omega (arith, row-b, p .counted .long);
-              some-other = omega (arith, alone p .weighs, tally-some (layout n t shifts) (sized-valid (o .sized)) (p .counted) (alone p .member) other-meets);
+              some-other = omega (arith, alone p .weighs, tally-some (layout n t shifts) (plan-valid (o .sized)) (p .counted) (alone p .member) other-meets);
               apart = r≢b;
             }
 
@@ -202,7 +207,7 @@ module _ {n t : ℕ} {shifts sum tally : List ℕ} {r : ℕ} (o : One n t shifts
               let p = o .pictured .picture in
               let s = alone p in
               let a = next-of (o .pictured .E) (o .pictured .u) p .picture in
-              let i : q < 2 * t = meets-row L (sized-valid (o .sized)) c h in
+              let i : q < 2 * t = meets-row L (plan-valid (o .sized)) c h in
               let old = tally-counts (o .sized) (p .counted) i in
               let new = tally-counts (o .sized) (a .counted) i in
               let less = length-onRow-without L (o .pictured .E) c q (rising-distinct (p .counted .erased .rising)) (s .member) in
@@ -216,7 +221,7 @@ module _ {n t : ℕ} {shifts sum tally : List ℕ} {r : ℕ} (o : One n t shifts
                 lowers = record {
                   none = omega (arith, fewer r (alone (o .pictured .picture) .meet), o .left-one);
                   less = omega (arith, fewer b other-meets);
-                  rest = λ q y z. ap (λ v. v / 1024) (tally-touched .off q (λ k. ⊎-elim y z (both q k)));
+                  rest = λ q y z. ap (λ v. v / tallyUnit) (tally-touched .off q (λ k. ⊎-elim y z (both q k)));
                 };
                 next = next-of;
               }

@@ -1,8 +1,9 @@
 // Adding settled values to a block, and the test that nothing is left.
 ghost use mathlib.Core.Path.{_≡_};
 ghost use Rattle.settling.specs.Fill.{filled, Fillable, cleanOf};
-use crate::zeros::zero_bytes;
-use crate::zeros::zero_words;
+use slices::zero_bytes;
+use slices::zero_words;
+use tables::lists::place_at;
 
 // The first k values are added at the first k places.
 pub fn fill(block: &mut [u8], place: &[u16], value: &[u8], k: usize)
@@ -11,7 +12,7 @@ pub fn fill(block: &mut [u8], place: &[u16], value: &[u8], k: usize)
 {
     let mut i = 0;
     while i < k {
-        let c = place[i] as usize;
+        let c = place_at(place, i).0 as usize;
         block[c] = block[c] ^ value[i];
         i += 1;
     }

@@ -1,21 +1,23 @@
-// Settling the one erasure that a row has left. Rows are numbers of machine width here: a turn of a chain waits for the row before it, and
-// narrowing that row would make it wait longer.
+// Settling the one erasure that a row has left.
 ghost use mathlib.Core.Path.{_≡_};
 ghost use Rattle.plan.specs.Layout.{layout};
 ghost use Rattle.tables.specs.Picture.{counts};
 ghost use Rattle.settling.specs.Takes.{Rows, Removes, One, Takes};
 use plan::Place;
+use plan::Row;
+use tables::rows::TALLY_UNIT;
 use tables::rows::beside;
 
 // A settled place, what is added to its symbol, the row that it met beside the one it was settled by, and the number of erasures left there.
 pub struct Settled {
     pub place: Place,
     pub value: u8,
-    pub other: usize,
+    pub other: Row,
     pub rest: u16,
 }
 
-// Takes a place of weight w out of its two rows, the first of which has no other. Gives the number left on the second: its tally over 1,024.
+// Takes a place of weight w out of its two rows, the first of which has no other. Gives the number left on the second: its tally over the unit.
+// The rows are numbers of machine width, as in `beside`.
 pub(crate) fn remove(
     sum: &mut [u8],
     tally: &mut [u16],
@@ -32,33 +34,34 @@ pub(crate) fn remove(
     let rest = tally[other] - w;
     tally[other] = rest;
     sum[other] = sum[other] ^ x;
-    rest / 1024
+    rest / TALLY_UNIT
 }
 
-// The tally of a row with one left is 1,024 and the section; the place is that section's on the row.
+// The tally of a row with one left is the unit and the section; the place is that section's on the row.
 pub fn settle(
     n: usize,
     t: usize,
     shifts: &[u16],
     sum: &mut [u8],
     tally: &mut [u16],
-    row: usize,
+    row: Row,
 ) -> Settled
-    requires { ⌜ One n t (now shifts) (now sum) (now tally) row ⌝ }
-    ensures { λ r. ⌜ Takes (layout n t (now (shifts .entry))) (now (sum .entry)) (now (tally .entry)) (now (sum .exit)) (now (tally .exit)) row (r .place .0) (r .value) (r .other) ⌝ }
-    ensures { λ r. ⌜ r .rest ≡ counts (now (tally .exit)) (r .other) ⌝ }
+    requires { ⌜ One n t (now shifts) (now sum) (now tally) (row .0) ⌝ }
+    ensures { λ r. ⌜ Takes (layout n t (now (shifts .entry))) (now (sum .entry)) (now (tally .entry)) (now (sum .exit)) (now (tally .exit)) (row .0) (r .place .0) (r .value) (r .other .0) ⌝ }
+    ensures { λ r. ⌜ r .rest ≡ counts (now (tally .exit)) (r .other .0) ⌝ }
 {
-    let w = tally[row];
-    let x = sum[row];
-    let j = w as usize - 1024;
+    let r = row.0 as usize;
+    let w = tally[r];
+    let x = sum[r];
+    let j = w as usize - TALLY_UNIT as usize;
     let p = shifts[j] as usize;
-    let met = beside(t, p, row);
+    let met = beside(t, p, r);
     let place = Place((j * t + met.offset) as u16);
-    let rest = remove(&mut sum[..], &mut tally[..], row, met.other, w, x);
+    let rest = remove(&mut sum[..], &mut tally[..], r, met.other, w, x);
     Settled {
         place,
         value: x,
-        other: met.other,
+        other: Row(met.other as u16),
         rest,
     }
 }

@@ -8,7 +8,8 @@ use Prim.Native.Nat.{ℕ, _+_, _^_, _<_}
 use native.Mathlib.Nat.{mod-eq-of-lt}
 use native.Mathlib.Omega.{arith}
 use lib.ListN.{length, take}
-use Rattle.calls.specs.CallsLaws.{stop-or-pass}
+use Rattle.refusals.specs.RefusalLaws.{stop-or-pass}
+use Rattle.refusals.specs.declared.Refusal.{Refusal}
 use Rattle.act.specs.Acts.{stateOf}
 use Rattle.act.specs.declared.Held.{Held}
 use Rattle.turns.specs.Sheets.{Sheet, start}
@@ -61,11 +62,11 @@ module _ (c : Cursor) (buffer : List ℕ) {h : Held} {v m l : List ℕ} {turn : 
       fed-wait t e (subst (λ b. Fed (c .offset) (stateOf h v m) b parts text) (read-behind c buffer part past) f)
 
   -- a refusal ends the sheet, whatever parts are left
-  pub read-stop : Turns h v m l (hand c buffer) false (c .offset) turn h' v' m' l' → (count : ℕ) → turn ≡ Stop count → (parts : List (List ℕ)) →
+  pub read-stop : Turns h v m l (hand c buffer) false (c .offset) turn h' v' m' l' → (x : Refusal) (count : ℕ) → turn ≡ Stop x count → (parts : List (List ℕ)) →
       Fed (c .offset) (stateOf h v m) (hand c buffer) parts (take count l')
-  read-stop t count e parts = fed-stop t count e parts
+  read-stop t x count e parts = fed-stop t x count e parts
 
   -- the close, when no part is left
-  pub read-last : Turns h v m l (hand c buffer) true (c .offset) turn h' v' m' l' → (count : ℕ) → (turn ≡ End count) ⊎ (turn ≡ Stop count) →
+  pub read-last : Turns h v m l (hand c buffer) true (c .offset) turn h' v' m' l' → (count : ℕ) → (turn ≡ End count) ⊎ ((x : Refusal) × (turn ≡ Stop x count)) →
       Fed (c .offset) (stateOf h v m) (hand c buffer) [] (take count l')
   read-last t count e = fed-last t count e

@@ -5,6 +5,7 @@ use mathlib.Core.Logic.{_≢_}
 use mathlib.Core.List.{List, [], _++_}
 use Prim.Native.Nat.{ℕ, _+_, _≤_, _<_}
 use lib.ListN.{length, getD, take, drop}
+use Rattle.refusals.specs.declared.Check.the-variants.{Pass}
 use Rattle.commands.specs.Commands.{sizeOf, parsed}
 use Rattle.commands.specs.declared.Command.{Command}
 use Rattle.commands.specs.declared.Parsed.the-variants as front
@@ -22,12 +23,12 @@ use Rattle.sheet.specs.declared.Ran.the-variants.{Whole, Full}
 pub data Begins (job : List ℕ) : ℕ → State → List ℕ → Type 0 where
   nothing-yet : Begins job 0 start []
   one-more : {o : ℕ} {s : State} {text : List ℕ} → Begins job o s text → (c : Command) (s' : State) (said : List ℕ) → parsed (drop o job) ≡ front.Whole c →
-      refusalOf s c ≡ 0 → Means c s s' said → Begins job (o + sizeOf (getD (drop o job) 0 0)) s' (text ++ said)
+      refusalOf s c ≡ Pass → Means c s s' said → Begins job (o + sizeOf (getD (drop o job) 0 0)) s' (text ++ said)
 
 -- the line that follows: that of a command that goes on, or where none does the last line
 pub data Follows (o : ℕ) (s : State) (b said : List ℕ) : Type 0 where
-  goes : (c : Command) (s' : State) → parsed b ≡ front.Whole c → refusalOf s c ≡ 0 → Means c s s' said → Follows o s b said
-  closes : ((c : Command) → parsed b ≡ front.Whole c → refusalOf s c ≢ 0) → Sheet o s b said → Follows o s b said
+  goes : (c : Command) (s' : State) → parsed b ≡ front.Whole c → refusalOf s c ≡ Pass → Means c s s' said → Follows o s b said
+  closes : ((c : Command) → parsed b ≡ front.Whole c → refusalOf s c ≢ Pass) → Sheet o s b said → Follows o s b said
 
 -- a sheet that was cut: the text is the job's first lines, and there is no room for the line that follows
 pub record Cut (job : List ℕ) (room : ℕ) (text : List ℕ) : Type 0 where

@@ -2,17 +2,18 @@
 -- Main results: turned, turn-fits, next-placed; run-start, run-less, run-whole, run-full; held-start, held-ready.
 use mathlib.Core.Path.{_≡_, refl, sym, _∙_, ap, subst}
 use mathlib.Core.Logic.{by-cases}
-use mathlib.Core.Bool.{true, false, cond}
+use mathlib.Core.Bool.{true, cond}
 use mathlib.Core.List.{List, []}
 use Prim.Native.Nat.{ℕ, suc, _+_, _-_, _^_, _≤_, _<_}
 use native.Mathlib.Decide.{ℕ-discrete}
 use native.Mathlib.Omega.{arith}
 use lib.Dec.{eqb}
-use lib.ListN.{length, getD, take, drop, replicate, length-take, length-drop, length-append}
+use lib.ListN.{length, getD, take, drop, length-take, length-drop, length-append}
 use lib.Seq.{take-all, drop-drop, length-take-le}
 use borrow.Author.Tests.{eq-eqb, ne-eqb}
+use Rattle.refusals.specs.declared.Check.the-variants.{Pass}
 use Rattle.plan.specs.Layout.{layout}
-use Rattle.plan.specs.Plans.{layoutOf}
+use Rattle.plan.specs.Plans.{noPlan, plan, layoutOf}
 use Rattle.code.specs.Marks.{markBytes}
 use Rattle.commands.specs.Commands.{sizeOf, parsed}
 use Rattle.commands.specs.declared.Command.{Command}
@@ -57,7 +58,7 @@ module _ {job lent : List ℕ} {h : Held} {v m l : List ℕ} {at to : ℕ} {shee
   turn-fits big o = record {
     on = λ used count e. let w = on-count used count e o in (w .0, omega (arith, w .2, length-drop at job, r .inside));
     ended = λ count e. end-count count e o .0;
-    stopped = λ count e. stop-count count e o .0;
+    stopped = λ x count e. stop-count x count e o .0;
   }
 
   -- the sheet after the line: within the lent one, and past it as it was lent
@@ -90,7 +91,7 @@ module _ {job lent : List ℕ} {h : Held} {v m l : List ℕ} {at to : ℕ} {shee
   next-on {turn} {h'} {g} {v'} {m'} {l'} {sheet'} used count {x} {to'} {phase'} e o long same-held step put = go put
     where
       w : (count ≤ length l') × (0 < used) × (used ≤ length (drop at job))
-          × ((c : Command) × (parsed (drop at job) ≡ Whole c) × (refusalOf (stateOf h v m) c ≡ 0) × (used ≡ sizeOf (getD (drop at job) 0 0)) × Acts c h v m (take count l') h' v' m')
+          × ((c : Command) × (parsed (drop at job) ≡ Whole c) × (refusalOf (stateOf h v m) c ≡ Pass) × (used ≡ sizeOf (getD (drop at job) 0 0)) × Acts c h v m (take count l') h' v' m')
       w = on-count used count e o
 
       inside : x ≤ length job
@@ -182,7 +183,7 @@ module _ {job lent : List ℕ} {h : Held} {v m l : List ℕ} {at to : ℕ} {shee
       Placed turn at l' sheet to sheet' x to' phase' → Running job lent g v' m' l' x to' sheet' phase' × (phase' ≡ 0 → at < x)
   next-placed o long same-held (on used count e a p) = next-on used count e o long same-held a p
   next-placed o long same-held (ended count e a p) = let q = end-count count e o in next-close count (q .0) (q .1) (q .2) long same-held a p
-  next-placed o long same-held (stopped count e a p) = let q = stop-count count e o in next-close count (q .0) (q .1) (q .2) long same-held a p
+  next-placed o long same-held (stopped x count e a p) = let q = stop-count x count e o in next-close count (q .0) (q .1) (q .2) long same-held a p
   next-placed o long same-held (waits e a b d f) = absurd (never-waits e o)
   next-placed o long same-held (bad y e a b d f) = absurd (never-bad y e o)
 
@@ -235,7 +236,7 @@ module _ {job lent : List ℕ} {h : Held} {v m l : List ℕ} {at to : ℕ} {shee
 -- ---- the start
 
 pub held-start : (v m : List ℕ) → stateOf unplanned v m ≡ start
-unfolding stateOf start markBytes layoutOf layout
+unfolding stateOf start noPlan plan markBytes layoutOf layout
 held-start v m = refl
 
 pub held-ready : (h : Held) (v m l : List ℕ) → h ≡ unplanned → length v ≡ blockLength → length m ≡ marksLength → length l ≡ lineLength →

@@ -22,6 +22,16 @@ pub padded-none : replicate 32 0 ≡ padded []
 unfolding padded
 padded-none = refl
 
+-- the array of zeros is that of n shifts 0
+zeros-more : (n k : ℕ) → n ≤ k → replicate {A = ℕ} k 0 ≡ replicate n 0 ++ replicate (k - n) 0
+zeros-more zero k h = let e : k - 0 ≡ k = omega arith in rw e
+zeros-more (suc n) zero h = absurd (omega arith)
+zeros-more (suc n) (suc k) h = let e : suc k - suc n ≡ k - n = omega arith in rw e (ap (λ l. 0 ∷ l) (zeros-more n k (omega arith)))
+
+pub padded-zeros : (n : ℕ) → n ≤ 32 → replicate 32 0 ≡ padded (replicate n 0)
+unfolding padded
+padded-zeros n h = zeros-more n 32 h ∙ ap (λ x. replicate n 0 ++ replicate (32 - x) 0) (sym (length-replicate n 0))
+
 pub length-padded : (xs : List ℕ) → length xs ≤ 32 → length (padded xs) ≡ 32
 unfolding padded
 length-padded xs h = simp (length-append, length-replicate) (omega arith)

@@ -2,16 +2,11 @@
 -- Main definitions: buffersFit, heldCheck.
 use mathlib.Core.Bool.{Bool, cond, _&&_}
 use mathlib.Core.List.{List}
-use Prim.Native.Nat.{ℕ, _+_, _*_, _/_}
+use Prim.Native.Nat.{ℕ}
 use lib.Dec.{eqb}
-use lib.ListN.{length, take}
-use Rattle.plan.specs.Plans.{verdictOf}
-use Rattle.plan.specs.declared.Verdict.{Verdict}
-use Rattle.plan.specs.declared.Verdict.the-variants.{Good, Size, Shift, Family}
-use Rattle.calls.specs.Calls.{noneFrom}
-use Rattle.calls.specs.declared.Refusal.the-variants as refusal
-use Rattle.calls.specs.declared.Check.{Check}
-use Rattle.calls.specs.declared.Check.the-variants as check
+use lib.ListN.{length}
+use Rattle.refusals.specs.declared.Check.{Check}
+use Rattle.calls.specs.Calls.{lentCheck, callCheck}
 use Rattle.lines.specs.Lines.{lineLength}
 use Rattle.act.specs.Acts.{blockLength, marksLength}
 use Rattle.act.specs.declared.Held.{Held}
@@ -20,16 +15,6 @@ use Rattle.act.specs.declared.Held.{Held}
 unfoldable pub buffersFit : List ℕ → List ℕ → List ℕ → Bool
 buffersFit v m l = eqb (length v) blockLength && eqb (length m) marksLength && eqb (length l) lineLength
 
--- the order of the tests: 1, 2, 3, 4
-abbrev pub checkBy : Verdict → Bool → Bool → Check
-checkBy Good fits clear = cond fits (cond clear check.Pass (check.Stop refusal.Spare)) (check.Stop refusal.Length)
-checkBy Size fits clear = check.Stop refusal.Size
-checkBy Shift fits clear = check.Stop refusal.Shift
-checkBy Family fits clear = check.Stop refusal.Size
-
--- what refuses a lent state. With no plan the buffers' content is no matter.
+-- what refuses a lent state is what refuses a call: 1 and 2 by the plan, then 3, then 4. With no plan there are no places, and so no spare bits.
 unfoldable pub heldCheck : Held → List ℕ → List ℕ → List ℕ → Check
-heldCheck h v m l =
-    cond (h .planned)
-    (checkBy (verdictOf (h .plan)) (buffersFit v m l) (noneFrom (take ((h .plan .n * h .plan .t + 7) / 8) m) (h .plan .n * h .plan .t)))
-    (cond (buffersFit v m l) check.Pass (check.Stop refusal.Length))
+heldCheck h v m l = cond (h .planned) (callCheck (h .plan) (buffersFit v m l) m) (lentCheck 0 (buffersFit v m l) m)

@@ -1,6 +1,4 @@
 -- The state of a job, what refuses a command on it, and the laws of the functions on its buffers.
 pub mod State
 pub mod Refusals
-pub mod MarkedLaws
-pub mod MarkedOnce
 pub mod RefusalLaws

@@ -10,6 +10,9 @@ use native.Mathlib.Omega.{arith}
 use lib.Dec.{leb, ltb, leb·zero}
 use borrow.Author.Tests.{lt-ltb, le-ltb, not-true, not-false}
 use mathlib.Core.List.{[]}
+use Rattle.refusals.specs.declared.Refusal.the-variants.{Early}
+use Rattle.refusals.specs.declared.Check.{Check}
+use Rattle.refusals.specs.declared.Check.the-variants.{Stop}
 use Rattle.plan.specs.declared.Plan.{Plan}
 use Rattle.commands.specs.declared.Command.{Command}
 use Rattle.commands.specs.declared.Command.the-variants.{NewPlan, SetShift, SetSymbol, MarkOne, MarkRun, Recover, Seal, Show, Figures, Straight, Powers, Ruler}
@@ -32,12 +35,12 @@ within-none x e h = rw h (sym (leb·zero x))
 pub within-some : (x e : ℕ) → (e ≡ 0 → ⊥) → ltb (e - 1) x ≡ leb e x
 within-some x e h = let f : suc (e - 1) ≡ e = omega arith in ap (λ y. leb y x) f
 
-module _ (planned inside : Bool) (other : ℕ) where
-  pub early-no-plan : not planned ≡ true → 9 ≡ early planned inside other
+module _ (planned inside : Bool) (other : Check) where
+  pub early-no-plan : not planned ≡ true → Stop Early ≡ early planned inside other
   unfolding early
   early-no-plan h = rw (not-true planned h)
 
-  pub early-outside : not planned ≡ false → inside ≡ false → 9 ≡ early planned inside other
+  pub early-outside : not planned ≡ false → inside ≡ false → Stop Early ≡ early planned inside other
   unfolding early
   early-outside h i = rw (not-false planned h, i)
 
@@ -66,6 +69,6 @@ refusal-same s a p (Powers n t q) e f = refl
 refusal-same s a p (Ruler n) e f = refl
 
 -- the refusal of a command that is known, on every state with this plan
-pub refusal-by : (planned : Bool) (plan : Plan) {c k : Command} {r : ℕ} → c ≡ k → r ≡ refusalOf (bare planned plan) k →
+pub refusal-by : (planned : Bool) (plan : Plan) {c k : Command} {r : Check} → c ≡ k → r ≡ refusalOf (bare planned plan) k →
     (s : State) → s .planned ≡ planned → s .plan ≡ plan → r ≡ refusalOf s c
 refusal-by planned plan {c} {k} {r} e h s f g = h ∙ sym (ap (refusalOf (bare planned plan)) e) ∙ refusal-same s planned plan c f g

@@ -1,4 +1,4 @@
-// The state of a job over lent buffers: its marks as bits, its symbols, and what refuses a command.
+// The state of a job over lent buffers: its symbols, and what refuses a command.
+// Public for the crates above only.
 pub mod buffers;
-pub mod marks;
-pub mod refusals;
+pub mod refusing;

@@ -21,10 +21,10 @@ use Rattle.math.specs.Sums.{xorOver, only}
 use Rattle.math.specs.SumsLaws.{only-true, only-false, xorOver-ext, xorOver-append, xorOver-one}
 use Rattle.math.specs.Residues.{back-forth, forth-back}
 use Rattle.plan.specs.Layout.{layout, top, bottom, bottomRow}
+use Rattle.plan.specs.GoodPlan.{GoodPlan}
 use Rattle.code.specs.Places.{Meets, meets}
 use Rattle.code.specs.Codewords.{syndrome}
 use Rattle.code.specs.Laws.Basics.{meets-true, true-meets}
-use Rattle.tables.specs.Picture.{Sized}
 use Rattle.tables.specs.Spots.{Stands, stands-top, stands-bottom}
 use Rattle.tables.specs.Sizes.{sized-places}
 use Rattle.tables.specs.Zeros.{zeros-long}
@@ -342,7 +342,7 @@ pub offset-bottom : (t p : ℕ) {r : ℕ} → t ≤ r → offsetOn t p r ≡ (r 
 unfolding offsetOn
 offset-bottom t p {r} h = rw (le-ltb r t h)
 
-module _ {n t : ℕ} {shifts : List ℕ} (s : Sized n t shifts) where
+module _ {n t : ℕ} {shifts : List ℕ} (s : GoodPlan n t shifts) where
   offset-small : (p r : ℕ) → offsetOn t p r < t
   offset-small p r =
       by-cases (decLt r t)
@@ -437,7 +437,7 @@ pub record Syndromes (n t : ℕ) (shifts block sum : List ℕ) : Type 0 where
   pub each : (r : ℕ) → r < 2 * t → getD sum r 0 ≡ syndrome (layout n t shifts) (λ c. getD block c 0) r
 
 -- the top rows, then the bottom rows
-pub both-halves : (n t : ℕ) (shifts block sum part₁ mid part₂ new : List ℕ) → Sized n t shifts → sum ≡ replicate (2 * t) 0
+pub both-halves : (n t : ℕ) (shifts block sum part₁ mid part₂ new : List ℕ) → GoodPlan n t shifts → sum ≡ replicate (2 * t) 0
     → mid ≡ take 0 sum ++ (part₁ ++ drop (t - 0) (drop 0 sum)) → Mapped (added (straight t block) n) (take (t - 0) (drop 0 sum)) part₁
     → new ≡ take t mid ++ (part₂ ++ drop (2 * t - t) (drop t mid)) → Mapped (added (turned t shifts block) n) (take (2 * t - t) (drop t mid)) part₂
     → Syndromes n t shifts block new

@@ -1,8 +1,9 @@
 // The sums of all rows of a block: of the top rows up to eight sections at a time, of the bottom rows two.
+// Public for the crates above only.
 ghost use mathlib.Core.Path.{_≡_};
 ghost use Prim.Native.Nat.{_*_, _≤_, _<_};
 ghost use lib.ListN.{length, replicate};
-ghost use Rattle.tables.specs.Picture.{Sized};
+ghost use Rattle.plan.specs.GoodPlan.{GoodPlan};
 ghost use Rattle.sums.specs.SumLaws.{Xored, withTwo, added, straight, turned, turnedBy, turnedTwo, Taken, Syndromes};
 ghost use Rattle.tables.specs.Sweeps.{Mapped};
 
@@ -132,7 +133,7 @@ fn add_turned(t: usize, p: usize, section: &[u8], bottom: &mut [u8])
 
 // Adds all sections to the sums of the bottom rows.
 fn add_bottoms(n: usize, t: usize, shifts: &[u16], block: &[u8], bottom: &mut [u8])
-    requires { ⌜ Sized n t (now shifts) × (length (now block) ≡ n * t) × (length (now bottom) ≡ t) ⌝ }
+    requires { ⌜ GoodPlan n t (now shifts) × (length (now block) ≡ n * t) × (length (now bottom) ≡ t) ⌝ }
     ensures { λ _. ⌜ Mapped (added (turned t (now (shifts .entry)) (now (block .entry))) n) (now (bottom .entry)) (now (bottom .exit)) ⌝ }
 {
     let mut j = 0;
@@ -156,7 +157,7 @@ fn add_bottoms(n: usize, t: usize, shifts: &[u16], block: &[u8], bottom: &mut [u
 
 // The row sums of the block, into a table of zeros.
 pub fn syndromes(n: usize, t: usize, shifts: &[u16], block: &[u8], sum: &mut [u8])
-    requires { ⌜ Sized n t (now shifts) × (length (now block) ≡ n * t) × (now sum ≡ replicate (2 * t) 0) ⌝ }
+    requires { ⌜ GoodPlan n t (now shifts) × (length (now block) ≡ n * t) × (now sum ≡ replicate (2 * t) 0) ⌝ }
     ensures { λ _. ⌜ Syndromes n t (now (shifts .entry)) (now (block .entry)) (now (sum .exit)) ⌝ }
 {
     let end = 2 * t;

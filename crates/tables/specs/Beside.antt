@@ -10,10 +10,9 @@ use lib.ListN.{getD}
 use Rattle.math.specs.Members.{_∈_}
 use Rattle.math.specs.MembersLaws.{upTo-∈}
 use Rattle.plan.specs.Layout.{layout, top, bottom, topRow, bottomRow}
+use Rattle.plan.specs.GoodPlan.{GoodPlan, plan-valid}
 use Rattle.code.specs.Places.{places, Meets}
 use Rattle.code.specs.Laws.Basics.{places-∈, bottom-ge}
-use Rattle.tables.specs.Picture.{Sized}
-use Rattle.tables.specs.Sizes.{sized-valid}
 use Rattle.tables.specs.Spots.{bottom-low, bottom-high, bottom-injective}
 
 -- the place on row r of a section with shift p has offset k, and b is its other row
@@ -49,7 +48,7 @@ module _ {t p r : ℕ} (shift : p < t) where
       of-a-bottom h (omega arith) (bottom-high t p (r - t + p - t) shift (omega arith) ∙ q)
 
 -- the place of section j on row r
-module _ {n t : ℕ} {shifts : List ℕ} (s : Sized n t shifts) {c r j k b : ℕ} (inside : c ∈ places (layout n t shifts)) (meet : Meets (layout n t shifts) c r)
+module _ {n t : ℕ} {shifts : List ℕ} (s : GoodPlan n t shifts) {c r j k b : ℕ} (inside : c ∈ places (layout n t shifts)) (meet : Meets (layout n t shifts) c r)
     (section : c / t ≡ j) (q : Beside t (getD shifts j 0) r k b) where
   shift-small : getD shifts j 0 < t
   unfolding layout
@@ -65,7 +64,7 @@ module _ {n t : ℕ} {shifts : List ℕ} (s : Sized n t shifts) {c r j k b : ℕ
 
   below-bottom : r ≡ bottom (layout n t shifts) c → t ≤ r
   unfolding layout
-  below-bottom h = omega (arith, h, bottom-ge (layout n t shifts) (sized-valid s) c)
+  below-bottom h = omega (arith, h, bottom-ge (layout n t shifts) (plan-valid s) c)
 
   found : (k ≡ c % t) × (((r ≡ top (layout n t shifts) c) × (b ≡ bottom (layout n t shifts) c)) ⊎ ((r ≡ bottom (layout n t shifts) c) × (b ≡ top (layout n t shifts) c)))
   found =

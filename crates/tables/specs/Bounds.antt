@@ -11,12 +11,13 @@ use Rattle.math.specs.MembersLaws.{upTo-∈, length-upTo, rising-distinct}
 use Rattle.math.specs.Sums.{sumOver}
 use Rattle.math.specs.SumsLaws.{sumOver-add, sumOver-const, sumOver-le, sumOver-split, sumOver-zero}
 use Rattle.math.specs.Pigeonhole.{map-mem, distinct-map, distinct-length}
+use Rattle.bounds.specs.Bounds.{maxN}
 use Rattle.plan.specs.Layout.{Layout, Valid, layout, topRow, bottomRow, top, bottom}
+use Rattle.plan.specs.GoodPlan.{GoodPlan, plan-valid}
 use Rattle.code.specs.Places.{Meets}
 use Rattle.code.specs.Laws.Basics.{places-∈, place-unique, offset-lt, top≢bottom, meets-row}
 use Rattle.code.specs.Laws.Forest.{Erased}
-use Rattle.tables.specs.Picture.{Sized, weight, counts, Counted, onRow}
-use Rattle.tables.specs.Sizes.{sized-valid}
+use Rattle.tables.specs.Picture.{tallyUnit, weight, counts, Counted, onRow}
 use Rattle.tables.specs.Spots.{bottom-injective}
 use Rattle.tables.specs.StuckLaws.{∈-length, ∈-onRow, onRow-∈, distinct-onRow}
 
@@ -54,17 +55,17 @@ module _ (L : Layout) (ok : Valid L) where
       inside : (j : ℕ) → j ∈ map (λ c. c / L .t) (onRow L E r) → j ∈ L .sections
       inside j i = let o = map-mem (λ c. c / L .t) (onRow L E r) i in rw (o .2) (section (o .0) (o .1))
 
-module _ {n t : ℕ} {shifts : List ℕ} (s : Sized n t shifts) {E : List ℕ} (er : Erased (layout n t shifts) E) where
-  few : (r : ℕ) → length (onRow (layout n t shifts) E r) ≤ 32
+module _ {n t : ℕ} {shifts : List ℕ} (s : GoodPlan n t shifts) {E : List ℕ} (er : Erased (layout n t shifts) E) where
+  few : (r : ℕ) → length (onRow (layout n t shifts) E r) ≤ maxN
   unfolding layout
-  few r = omega (arith, onRow-count (layout n t shifts) (sized-valid s) er r, length-upTo n, s .n-max)
+  few r = omega (arith, onRow-count (layout n t shifts) (plan-valid s) er r, length-upTo n, s .n-max)
 
   -- the weights on a row: so many times 1,024, and the sections
   weights : (r : ℕ) → sumOver (onRow (layout n t shifts) E r) (weight t)
-      ≡ length (onRow (layout n t shifts) E r) * 1024 + sumOver (onRow (layout n t shifts) E r) (λ c. c / t)
+      ≡ length (onRow (layout n t shifts) E r) * tallyUnit + sumOver (onRow (layout n t shifts) E r) (λ c. c / t)
   unfolding weight
-  weights r = sumOver-add (onRow (layout n t shifts) E r) (λ c. 1024) (λ c. c / t)
-      ∙ ap (λ y. y + sumOver (onRow (layout n t shifts) E r) (λ c. c / t)) (sumOver-const (onRow (layout n t shifts) E r) 1024)
+  weights r = sumOver-add (onRow (layout n t shifts) E r) (λ c. tallyUnit) (λ c. c / t)
+      ∙ ap (λ y. y + sumOver (onRow (layout n t shifts) E r) (λ c. c / t)) (sumOver-const (onRow (layout n t shifts) E r) tallyUnit)
 
   sections-few : (r : ℕ) → sumOver (onRow (layout n t shifts) E r) (λ c. c / t) ≤ length (onRow (layout n t shifts) E r) * 31
   unfolding layout
@@ -73,9 +74,9 @@ module _ {n t : ℕ} {shifts : List ℕ} (s : Sized n t shifts) {E : List ℕ} (
       (sumOver-le (onRow (layout n t shifts) E r) (λ c. c / t) (λ c. 31) (λ c m.
       omega (arith, upTo-∈ n (places-∈ (layout n t shifts) (er .inside c (onRow-∈ (layout n t shifts) E r m .0)) .1), s .n-max)))
 
-module _ {n t : ℕ} {shifts : List ℕ} (s : Sized n t shifts) {E tally : List ℕ} (C : Counted (layout n t shifts) E tally) where
+module _ {n t : ℕ} {shifts : List ℕ} (s : GoodPlan n t shifts) {E tally : List ℕ} (C : Counted (layout n t shifts) E tally) where
   tally-is : {r : ℕ} → r < 2 * layout n t shifts .t → getD tally r 0
-      ≡ length (onRow (layout n t shifts) E r) * 1024 + sumOver (onRow (layout n t shifts) E r) (λ c. c / t)
+      ≡ length (onRow (layout n t shifts) E r) * tallyUnit + sumOver (onRow (layout n t shifts) E r) (λ c. c / t)
   unfolding layout
   tally-is {r} h = C .tallies r h ∙ weights s (C .erased) r
 
@@ -85,7 +86,7 @@ module _ {n t : ℕ} {shifts : List ℕ} (s : Sized n t shifts) {E tally : List 
   tally-counts {r} h = omega (arith, tally-is h, sections-few s (C .erased) r, few s (C .erased) r)
 
   -- there is room for one more
-  pub tally-room : {r : ℕ} → r < 2 * layout n t shifts .t → getD tally r 0 + 1055 < 65536
+  pub tally-room : {r : ℕ} → r < 2 * layout n t shifts .t → getD tally r 0 + (tallyUnit + maxN) ≤ 65536
   tally-room {r} h = omega (arith, tally-is h, sections-few s (C .erased) r, few s (C .erased) r)
 
 module _ (L : Layout) (ok : Valid L) {E tally : List ℕ} (C : Counted L E tally) where

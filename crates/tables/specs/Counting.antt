@@ -16,11 +16,13 @@ use lib.Seq.{getD-set-other}
 use Rattle.math.specs.Members.{_∈_, keep, Rising, rising-none, rising-more}
 use Rattle.math.specs.MembersLaws.{∈-keep, keep-∈, keep-all, keep-none, keep-ext, rising-keep, rising-append, rising-ext}
 use Rattle.math.specs.Sums.{sumOver}
+use Rattle.bounds.specs.Bounds.{maxN, maxT}
 use Rattle.plan.specs.Layout.{Layout, layout, top, bottom, bottomRow}
+use Rattle.plan.specs.GoodPlan.{GoodPlan, plan-valid}
 use Rattle.code.specs.Laws.Forest.{Erased}
-use Rattle.tables.specs.Picture.{Sized, Counted, weight, onRow}
+use Rattle.tables.specs.Picture.{Counted, tallyUnit, weight, onRow}
 use Rattle.tables.specs.Spots.{Stands, Reached, reached-stands, stands-top, stands-bottom, stands-weight, stands-inside}
-use Rattle.tables.specs.Sizes.{layout-t, sized-valid, sized-∈}
+use Rattle.tables.specs.Sizes.{layout-t, sized-∈}
 use Rattle.tables.specs.PictureLaws.{counted-add}
 use Rattle.tables.specs.Bounds.{tally-room}
 
@@ -96,7 +98,7 @@ All E c e = (d : ℕ) → c ≤ d → d < e → d ∈ E
 
 -- the table tallies places below c of some list that goes on with all places from c to e
 pub record Due (n t : ℕ) (shifts : List ℕ) (c e : ℕ) (tally : List ℕ) : Type 0 where
-  pub sized : Sized n t shifts
+  pub sized : GoodPlan n t shifts
   pub E : List ℕ
   pub erased : Erased (layout n t shifts) E
   pub all : All E c e
@@ -110,10 +112,10 @@ pub record Notes (n t : ℕ) (shifts : List ℕ) (c e : ℕ) (tally tally' : Lis
 pub record Ready (t p j k : ℕ) (tally : List ℕ) : Type 0 where
   pub within : k < t
   pub shift : p < t
-  pub t-max : t ≤ 2048
-  pub section : j < 32
+  pub t-max : t ≤ maxT
+  pub section : j < maxN
   pub long : length tally ≡ 2 * t
-  pub room : (r : ℕ) → r < 2 * t → getD tally r 0 + 1055 < 65536
+  pub room : (r : ℕ) → r < 2 * t → getD tally r 0 + (tallyUnit + maxN) ≤ 65536
 
 module _ {t p j k : ℕ} {tally : List ℕ} (R : Ready t p j k tally) where
   bottom-small : bottomRow t p k < 2 * t
@@ -132,10 +134,10 @@ module _ {t p j k : ℕ} {tally : List ℕ} (R : Ready t p j k tally) where
   ready-bottom e q = omega (arith, bottom-small)
 
   -- there is room for the weight w
-  pub room-top : {h w : ℕ} → h ≡ k → w ≡ 1024 + j → getD tally h 0 + w < 65536
+  pub room-top : {h w : ℕ} → h ≡ k → w ≡ tallyUnit + j → getD tally h 0 + w < 65536
   room-top {h} e q = omega (arith, R .room h (omega arith), R .section)
 
-  pub room-bottom : {h b w : ℕ} {tally₁ : List ℕ} → h ≡ k → b ≡ bottomRow t p k → w ≡ 1024 + j → tally₁ ≡ set tally h (getD tally h 0 + w)
+  pub room-bottom : {h b w : ℕ} {tally₁ : List ℕ} → h ≡ k → b ≡ bottomRow t p k → w ≡ tallyUnit + j → tally₁ ≡ set tally h (getD tally h 0 + w)
       → getD tally₁ b 0 + w < 65536
   room-bottom {h} {b} {w} {tally₁} e f v q =
       let g : getD tally₁ b 0 ≡ getD tally b 0 = ap (λ l. getD l b 0) q ∙ getD-set-other tally h b (getD tally h 0 + w) 0 (λ z. omega (arith, bottom-large)) in
@@ -145,11 +147,11 @@ module _ {t p j k : ℕ} {tally : List ℕ} (R : Ready t p j k tally) where
 -- what it does: stores at the top row, then at the bottom row
 pub record Noted (t p j k : ℕ) (tally tally' : List ℕ) : Type 0 where
   pub tally₁ : List ℕ
-  pub at-top : tally₁ ≡ set tally k (getD tally k 0 + (1024 + j))
-  pub at-bottom : tally' ≡ set tally₁ (bottomRow t p k) (getD tally₁ (bottomRow t p k) 0 + (1024 + j))
+  pub at-top : tally₁ ≡ set tally k (getD tally k 0 + (tallyUnit + j))
+  pub at-bottom : tally' ≡ set tally₁ (bottomRow t p k) (getD tally₁ (bottomRow t p k) 0 + (tallyUnit + j))
 
 -- the stores at rows h and b with weight w
-pub noted : {t p j k h b w : ℕ} {tally tally₁ tally' : List ℕ} → h ≡ k → b ≡ bottomRow t p k → w ≡ 1024 + j
+pub noted : {t p j k h b w : ℕ} {tally tally₁ tally' : List ℕ} → h ≡ k → b ≡ bottomRow t p k → w ≡ tallyUnit + j
     → tally₁ ≡ set tally h (getD tally h 0 + w) → tally' ≡ set tally₁ b (getD tally₁ b 0 + w) → Noted t p j k tally tally'
 noted {tally₁ = tally₁} eh eb ew l l' = record { tally₁ = tally₁; at-top = rw (eh, ew) at l; at-bottom = rw (eb, ew) at l' }
 
@@ -181,7 +183,7 @@ seen-skip {n} {t} {shifts} {E} {c} {tally} c' S g h =
     record { counted = subst (λ F. Counted (layout n t shifts) F tally) (sym (below-skip c c' E g h)) (S .counted) }
 
 -- all are noted
-pub seen-all : {n t : ℕ} {shifts E : List ℕ} {c : ℕ} {tally : List ℕ} → Sized n t shifts → Erased (layout n t shifts) E → Seen n t shifts E c tally
+pub seen-all : {n t : ℕ} {shifts E : List ℕ} {c : ℕ} {tally : List ℕ} → GoodPlan n t shifts → Erased (layout n t shifts) E → Seen n t shifts E c tally
     → n * t ≤ c → Counted (layout n t shifts) E tally
 seen-all {n} {t} {shifts} {E} {c} {tally} s er S h =
     subst (λ F. Counted (layout n t shifts) F tally) (below-all c E (λ d m. omega (arith, sized-∈ s (er .inside d m)))) (S .counted)
@@ -245,7 +247,7 @@ module _ {n t : ℕ} {shifts : List ℕ} {c e : ℕ} {tally : List ℕ} (D : Due
   due-here {j} {begin} h R l = subst (λ z. Ready t z j (c - begin) tally) (sym (R .shift)) (due-ready h (reached-stands R l))
 
 -- a place is noted
-pub noted-notes : {n t : ℕ} {shifts : List ℕ} {c j k : ℕ} {tally tally' : List ℕ} → Sized n t shifts → Stands t c j k
+pub noted-notes : {n t : ℕ} {shifts : List ℕ} {c j k : ℕ} {tally tally' : List ℕ} → GoodPlan n t shifts → Stands t c j k
     → Noted t (getD shifts j 0) j k tally tally' → Notes n t shifts c (c + 1) tally tally'
 noted-notes {n} {t} {shifts} {c} {j} {k} {tally} {tally'} s st D = record { notes = step }
   where
@@ -258,7 +260,7 @@ noted-notes {n} {t} {shifts} {c} {j} {k} {tally} {tally'} s st D = record { note
     B : bottom L c ≡ bottomRow t (getD shifts j 0) k
     B = stands-bottom st n shifts
 
-    W : weight (L .t) c ≡ 1024 + j
+    W : weight (L .t) c ≡ tallyUnit + j
     W = ap (λ z. weight z c) (layout-t n t shifts) ∙ stands-weight st
 
     step : (E : List ℕ) → Erased L E → All E c (c + 1) → Seen n t shifts E c tally → Seen n t shifts E (c + 1) tally'
@@ -266,11 +268,11 @@ noted-notes {n} {t} {shifts} {c} {j} {k} {tally} {tally'} s st D = record { note
         let m : c ∈ E = a c (omega arith) (omega arith) in
         record {
           counted = subst (λ F. Counted L F tally') (sym (below-note c (er .rising) m))
-              (counted-add L (sized-valid s) c (S .counted) (D .tally₁) tally' (er .inside c m) (λ d i. below-in c E i .1)
+              (counted-add L (plan-valid s) c (S .counted) (D .tally₁) tally' (er .inside c m) (λ d i. below-in c E i .1)
               (rw (T, W) (D .at-top)) (rw (B, W) (D .at-bottom)));
         }
 
-pub noted-here : {n t : ℕ} {shifts : List ℕ} {c j begin end p : ℕ} {tally tally' : List ℕ} → Sized n t shifts → Reached n t shifts c j begin end p → c < end
+pub noted-here : {n t : ℕ} {shifts : List ℕ} {c j begin end p : ℕ} {tally tally' : List ℕ} → GoodPlan n t shifts → Reached n t shifts c j begin end p → c < end
     → Noted t p j (c - begin) tally tally' → Notes n t shifts c (c + 1) tally tally'
 noted-here {t = t} {c = c} {j = j} {begin = begin} {tally = tally} {tally' = tally'} s R h D =
     noted-notes s (reached-stands R h) (subst (λ z. Noted t z j (c - begin) tally tally') (R .shift) D)

@@ -5,12 +5,9 @@ pub mod PictureLaws
 pub mod Sizes
 pub mod Beside
 pub mod Sweeps
-pub mod Filling
 pub mod Zeros
 pub mod StuckLaws
 pub mod Bounds
 pub mod Counting
-pub mod Lowest
-pub mod Words
 pub mod Scan
 pub mod Stretches

@@ -4,34 +4,27 @@
 use mathlib.Core.Path.{_≡_}
 use mathlib.Core.Logic.{_≢_}
 use mathlib.Core.List.{List}
-use Prim.Native.Nat.{ℕ, _+_, _*_, _/_, _≤_, _<_}
+use Prim.Native.Nat.{ℕ, _+_, _*_, _/_, _<_}
 use lib.ListN.{length, getD}
 use Rattle.math.specs.Members.{_∈_, keep}
 use Rattle.math.specs.Xor.{_⊕_}
 use Rattle.math.specs.Sums.{sumOver}
-use Rattle.bounds.specs.Bounds.{minN, maxN, minT, maxT, maxPlaces}
 use Rattle.plan.specs.Layout.{Layout}
 use Rattle.code.specs.Places.{places, meets}
 use Rattle.code.specs.Codewords.{syndrome}
 use Rattle.code.specs.Laws.Forest.{Erased}
 
--- n, t and the first n of the shifts are those of a plan that is not refused
-pub record Sized (n t : ℕ) (shifts : List ℕ) : Type 0 where
-  pub n-min : minN ≤ n
-  pub n-max : n ≤ maxN
-  pub t-min : minT ≤ t
-  pub t-max : t ≤ maxT
-  pub places-max : n * t ≤ maxPlaces
-  pub long : n ≤ length shifts
-  pub below : (j : ℕ) → j < n → getD shifts j 0 < t
+-- what each erasure on a row adds to its tally, beside its section
+abbrev pub tallyUnit : ℕ
+tallyUnit = 1024
 
 -- what a place adds to the tally of each of its rows
 unfoldable pub weight : ℕ → ℕ → ℕ
-weight t c = 1024 + c / t
+weight t c = tallyUnit + c / t
 
 -- how many erasures are left on row r, by its tally
 unfoldable pub counts : List ℕ → ℕ → ℕ
-counts tally r = getD tally r 0 / 1024
+counts tally r = getD tally r 0 / tallyUnit
 
 -- the places of E on row r
 unfoldable pub onRow : Layout → List ℕ → ℕ → List ℕ

@@ -18,21 +18,22 @@ use Rattle.math.specs.MembersLaws.{rising-keep}
 use Rattle.math.specs.Sums.{only}
 use Rattle.math.specs.SumsLaws.{only-true, only-false}
 use Rattle.plan.specs.Layout.{layout}
+use Rattle.plan.specs.GoodPlan.{GoodPlan}
 use Rattle.code.specs.Places.{places}
 use Rattle.code.specs.Codewords.{bitOf}
 use Rattle.code.specs.Marks.{mark, erasures, NoSpare}
 use Rattle.code.specs.Laws.Forest.{Erased}
 use Rattle.code.specs.Laws.MarksLaws.{in-erasures, rising-erasures}
-use Rattle.tables.specs.Picture.{Sized, Counted}
+use Rattle.tables.specs.Picture.{Counted}
 use Rattle.tables.specs.Spots.{Reached, reached-on}
 use Rattle.tables.specs.Sizes.{∈-sized}
 use Rattle.tables.specs.Counting.{fromPlace, in-from, from-in, Seen, All, Due, Notes, seen-start, seen-at, seen-skip, seen-all}
-use Rattle.tables.specs.Lowest.{zeros-below, first-one, bit-beyond, dropped-low, dropped-high, dropped-less}
-use Rattle.tables.specs.Words.{Clear, Word, word-late, past-last}
+use Rattle.bits.specs.Lowest.{zeros-below, first-one, bit-beyond, dropped-low, dropped-high, dropped-less}
+use Rattle.bits.specs.Words.{Clear, Word, word-late, past-last}
 
 -- what is lent for a scan: a plan's numbers, and a mark bit for each place
 pub record Lent (n t : ℕ) (shifts marks : List ℕ) : Type 0 where
-  pub sized : Sized n t shifts
+  pub sized : GoodPlan n t shifts
   pub marks-long : length marks ≡ (n * t + 7) / 8
   pub no-spare : NoSpare (layout n t shifts) marks
 

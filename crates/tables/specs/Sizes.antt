@@ -3,27 +3,17 @@ use mathlib.Core.Path.{_≡_, refl}
 use mathlib.Core.List.{List}
 use Prim.Native.Nat.{ℕ, _*_, _<_}
 use Rattle.math.specs.Members.{_∈_, upTo}
-use Rattle.math.specs.MembersLaws.{upTo-∈, ∈-upTo, rising-upTo}
-use Rattle.plan.specs.Layout.{Valid, layout}
+use Rattle.math.specs.MembersLaws.{upTo-∈, ∈-upTo}
+use Rattle.plan.specs.Layout.{layout}
+use Rattle.plan.specs.GoodPlan.{GoodPlan}
 use Rattle.code.specs.Places.{places}
 use Rattle.code.specs.Laws.MarksLaws.{places-all}
-use Rattle.tables.specs.Picture.{Sized}
 
 pub layout-t : (n t : ℕ) (shifts : List ℕ) → layout n t shifts .t ≡ t
 unfolding layout
 layout-t n t shifts = refl
 
-module _ {n t : ℕ} {shifts : List ℕ} (s : Sized n t shifts) where
-  pub sized-valid : Valid (layout n t shifts)
-  unfolding layout
-  sized-valid =
-      record {
-        positive = s .t-min;
-        rising = rising-upTo n;
-        inside = λ j m. upTo-∈ n m;
-        below = λ j m. s .below j (upTo-∈ n m);
-      }
-
+module _ {n t : ℕ} {shifts : List ℕ} (s : GoodPlan n t shifts) where
   pub sized-places : places (layout n t shifts) ≡ upTo (n * t)
   unfolding layout
   sized-places = places-all (layout n t shifts) refl (s .t-min)

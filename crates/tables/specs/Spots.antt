@@ -12,7 +12,7 @@ use lib.Arith.{digits-div, digits-mod}
 use lib.ListN.{getD}
 use Rattle.math.specs.Residues.{back-injective}
 use Rattle.plan.specs.Layout.{layout, top, bottom, topRow, bottomRow}
-use Rattle.tables.specs.Picture.{weight}
+use Rattle.tables.specs.Picture.{tallyUnit, weight}
 
 -- place c is symbol k of section j
 pub record Stands (t c j k : ℕ) : Type 0 where
@@ -39,9 +39,9 @@ module _ {t c j k : ℕ} (s : Stands t c j k) where
   unfolding layout bottom
   stands-bottom n shifts = rw (stands-section, stands-offset)
 
-  pub stands-weight : weight t c ≡ 1024 + j
+  pub stands-weight : weight t c ≡ tallyUnit + j
   unfolding weight
-  stands-weight = ap (λ i. 1024 + i) stands-section
+  stands-weight = ap (λ i. tallyUnit + i) stands-section
 
 -- the bottom row with no division
 pub bottom-low : (t p k : ℕ) → k < t → p ≤ k → bottomRow t p k ≡ t + (k - p)

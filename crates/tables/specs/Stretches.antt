@@ -14,12 +14,13 @@ use Rattle.plan.specs.Layout.{bottomRow}
 use Rattle.code.specs.Codewords.{bitOf}
 use Rattle.code.specs.Marks.{mark}
 use Rattle.code.specs.Laws.MarksLaws.{bit-not}
-use Rattle.tables.specs.Lowest.{bit-beyond}
-use Rattle.tables.specs.Words.{Word}
+use Rattle.bits.specs.Lowest.{bit-beyond}
+use Rattle.bits.specs.Words.{Word}
+use Rattle.tables.specs.Picture.{tallyUnit}
 use Rattle.tables.specs.Sizes.{∈-sized}
 use Rattle.tables.specs.Sweeps.{Apart, Room, Swept, swept-none, swept-more, swept-same}
 use Rattle.tables.specs.Spots.{Stands, Reached, bottom-low, bottom-high}
-use Rattle.tables.specs.Counting.{All, Due, Notes, Ready, Noted, noted, due-inside, due-here, due-long, notes-none, notes-at, notes-then, noted-notes}
+use Rattle.tables.specs.Counting.{All, Due, Notes, Ready, Noted, noted, due-here, due-long, notes-none, notes-at, notes-then, noted-notes}
 use Rattle.tables.specs.Scan.{Lent, Scanned, toNote, erased-noted, scanned-notes, ∈-noted, marked-inside, only-one}
 
 -- the change at each of the places: weight w is added
@@ -56,31 +57,28 @@ stretch-apart {t} {p} {k} {m} S h =
 
 -- what noting them does
 pub record Run (t p j k m : ℕ) (tally tally' : List ℕ) : Type 0 where
-  pub swept : Swept (added (1024 + j)) k (bottomRow t p k) m tally tally'
+  pub swept : Swept (added (tallyUnit + j)) k (bottomRow t p k) m tally tally'
 
 -- what the sweep needs, at rows h and b and weight w
 module _ {t p j k m : ℕ} {tally : List ℕ} (E : Ready t p j k tally) (X : Stretch t p k m) where
   pub run-apart : {h b l : ℕ} → 0 < m → h ≡ k → b ≡ bottomRow t p k → l ≡ 2 * t → Apart h b m l
   run-apart g eh eb el = let A = stretch-apart X g in record { order = omega (arith, A .order); end = omega (arith, A .end) }
 
-  pub run-room : {w : ℕ} → w ≡ 1024 + j → Room w tally
+  pub run-room : {w : ℕ} → w ≡ tallyUnit + j → Room w tally
   run-room e = record { each = λ r h. omega (arith, E .room r (omega (arith, E .long)), E .section) }
 
-pub run : {t p j k m h b w : ℕ} {tally tally' : List ℕ} → h ≡ k → b ≡ bottomRow t p k → w ≡ 1024 + j
+pub run : {t p j k m h b w : ℕ} {tally tally' : List ℕ} → h ≡ k → b ≡ bottomRow t p k → w ≡ tallyUnit + j
     → Swept (added w) h b m tally tally' → Run t p j k m tally tally'
 run eh eb ew l = record { swept = rw (eh, eb, ew) at l }
 
 -- the first i of them noted, one after the other
 record Done (n t : ℕ) (shifts : List ℕ) (c p j k i : ℕ) (tally : List ℕ) : Type 0 where
   tally' : List ℕ
-  swept : Swept (added (1024 + j)) k (bottomRow t p k) i tally tally'
+  swept : Swept (added (tallyUnit + j)) k (bottomRow t p k) i tally tally'
   notes : Notes n t shifts c (c + i) tally tally'
 
 module _ {n t : ℕ} {shifts : List ℕ} {c j begin end p m : ℕ} {tally : List ℕ} (D : Due n t shifts c (c + m) tally)
     (R : Reached n t shifts c j begin end p) (X : Stretch t p (c - begin) m) (some : 0 < m) where
-  pub stretch-fits : c + m ≤ n * t
-  stretch-fits = due-inside D (omega arith)
-
   pub stretch-ready : Ready t p j (c - begin) tally
   stretch-ready = due-here D (omega arith) R (omega (arith, R .ends, R .passed, X .within))
 
@@ -98,7 +96,7 @@ module _ {n t : ℕ} {shifts : List ℕ} {c j begin end p m : ℕ} {tally : List
   none =
       record {
         tally' = tally;
-        swept = swept-none (added (1024 + j)) (c - begin) (bottomRow t p (c - begin)) tally;
+        swept = swept-none (added (tallyUnit + j)) (c - begin) (bottomRow t p (c - begin)) tally;
         notes = notes-at (omega arith) notes-none;
       }
 
@@ -121,10 +119,10 @@ module _ {n t : ℕ} {shifts : List ℕ} {c j begin end p m : ℕ} {tally : List
       low e = omega (arith, A .end)
 
       tally₁ : List ℕ
-      tally₁ = set (O .tally') (k + i) (getD (O .tally') (k + i) 0 + (1024 + j))
+      tally₁ = set (O .tally') (k + i) (getD (O .tally') (k + i) 0 + (tallyUnit + j))
 
       tally₂ : List ℕ
-      tally₂ = set tally₁ (b + i) (getD tally₁ (b + i) 0 + (1024 + j))
+      tally₂ = set tally₁ (b + i) (getD tally₁ (b + i) 0 + (tallyUnit + j))
 
       st : Stands t (c + i) j (k + i)
       st = record { whole = omega (arith, R .begins, R .passed); within = omega (arith, X .within) }

@@ -1,5 +1,5 @@
 -- Tables of zeros, and their front parts.
--- Main results: zeros-long, zeros, zeros-room, zeros-part, front-long.
+-- Main results: zeros-long, zeros, zeros-of, zeros-room, zeros-part, front-long.
 use mathlib.Core.Path.{_≡_, refl, sym, _∙_, ap}
 use mathlib.Core.List.{List, _∷_}
 use Prim.Native.Nat.{ℕ, zero, suc, _*_, _≤_}
@@ -19,6 +19,10 @@ pub record Zeros (m : ℕ) (table : List ℕ) : Type 0 where
 
 pub zeros : {m : ℕ} (k : ℕ) → m ≤ k → Zeros m (replicate k 0)
 zeros k h = record { size = k; zeros = refl; room = h }
+
+-- The law of every size: an array of k zeros is a table for a plan with t at most m, if k is at least 2m. A is what is known beside.
+pub zeros-of : {A : Type 0} {t m : ℕ} (k : ℕ) → A × (t ≤ m) → 2 * m ≤ k → A × Zeros (2 * t) (replicate k 0)
+zeros-of k g h = (g .0, zeros k (omega (arith, g .1)))
 
 zeros-front : (m k : ℕ) → m ≤ k → take m (replicate {A = ℕ} k 0) ≡ replicate m 0
 zeros-front zero k h = refl

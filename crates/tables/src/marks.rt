@@ -9,7 +9,7 @@ ghost use Rattle.tables.specs.Spots.{Reached};
 ghost use Rattle.tables.specs.Stretches.{Stretch};
 ghost use Rattle.tables.specs.Counting.{Due, Notes, Noted, Ready, fromPlace};
 ghost use Rattle.tables.specs.Scan.{Lent, Scanned};
-ghost use Rattle.tables.specs.Words.{Word};
+ghost use Rattle.bits.specs.Words.{Word};
 use crate::rows::bottom;
 use crate::rows::put_in;
 use crate::rows::top;
@@ -17,29 +17,9 @@ use crate::rows::weight;
 use crate::sweep::note_run;
 use crate::walk::Section;
 use crate::walk::Spot;
-use crate::words::pass_zeros;
-use crate::words::word_from;
+use bits::words::pass_zeros;
+use bits::words::word_from;
 use plan::Place;
-
-pub fn clear_bytes(s: &mut [u8])
-    ensures { λ _. ⌜ now (s .exit) ≡ replicate (length (now (s .entry))) 0 ⌝ }
-{
-    let mut i = 0;
-    while i < s.len() {
-        s[i] = 0;
-        i += 1;
-    }
-}
-
-pub fn clear_words(s: &mut [u16])
-    ensures { λ _. ⌜ now (s .exit) ≡ replicate (length (now (s .entry))) 0 ⌝ }
-{
-    let mut i = 0;
-    while i < s.len() {
-        s[i] = 0;
-        i += 1;
-    }
-}
 
 // Notes the place of the spot; p is the shift of its section.
 fn note(t: usize, p: usize, spot: Spot, tally: &mut [u16])
@@ -58,20 +38,20 @@ fn note_next(
     n: usize,
     t: usize,
     shifts: &[u16],
-    c: usize,
+    c: Place,
     at: Section,
     tally: &mut [u16],
 ) -> Section
-    requires { ⌜ Due n t (now shifts) c (c + 1) (now tally) ⌝ }
-    requires { ⌜ Reached n t (now shifts) c (at .index) (at .begin) (at .end) (at .shift) ⌝ }
-    ensures { λ _. ⌜ Notes n t (now (shifts .entry)) c (c + 1) (now (tally .entry)) (now (tally .exit)) ⌝ }
-    ensures { λ r. ⌜ Reached n t (now (shifts .entry)) c (r .index) (r .begin) (r .end) (r .shift) ⌝ }
+    requires { ⌜ Due n t (now shifts) (c .0) (c .0 + 1) (now tally) ⌝ }
+    requires { ⌜ Reached n t (now shifts) (c .0) (at .index) (at .begin) (at .end) (at .shift) ⌝ }
+    ensures { λ _. ⌜ Notes n t (now (shifts .entry)) (c .0) (c .0 + 1) (now (tally .entry)) (now (tally .exit)) ⌝ }
+    ensures { λ r. ⌜ Reached n t (now (shifts .entry)) (c .0) (r .index) (r .begin) (r .end) (r .shift) ⌝ }
 {
     let here = at.reach(n, t, shifts, c);
     let spot = Spot {
-        place: Place(c as u16),
+        place: c,
         section: here.index,
-        offset: c - here.begin,
+        offset: c.0 as usize - here.begin,
     };
     note(t, here.shift, spot, &mut tally[..]);
     here
@@ -82,19 +62,19 @@ fn note_stretch(
     n: usize,
     t: usize,
     shifts: &[u16],
-    c: usize,
+    c: Place,
     m: usize,
     at: Section,
     tally: &mut [u16],
 )
-    requires { ⌜ Due n t (now shifts) c (c + m) (now tally) × (0 < m) ⌝ }
-    requires { ⌜ Reached n t (now shifts) c (at .index) (at .begin) (at .end) (at .shift) × Stretch t (at .shift) (c - at .begin) m ⌝ }
-    ensures { λ _. ⌜ Notes n t (now (shifts .entry)) c (c + m) (now (tally .entry)) (now (tally .exit)) ⌝ }
+    requires { ⌜ Due n t (now shifts) (c .0) (c .0 + m) (now tally) × (0 < m) ⌝ }
+    requires { ⌜ Reached n t (now shifts) (c .0) (at .index) (at .begin) (at .end) (at .shift) × Stretch t (at .shift) (c .0 - at .begin) m ⌝ }
+    ensures { λ _. ⌜ Notes n t (now (shifts .entry)) (c .0) (c .0 + m) (now (tally .entry)) (now (tally .exit)) ⌝ }
 {
     let spot = Spot {
-        place: Place(c as u16),
+        place: c,
         section: at.index,
-        offset: c - at.begin,
+        offset: c.0 as usize - at.begin,
     };
     note_run(t, at.shift, m, spot, &mut tally[..]);
 }
@@ -117,15 +97,17 @@ pub fn note_places(
     let mut here = at;
     let mut d = c;
     while d < end {
-        here = here.reach(n, t, shifts, d);
-        let m = here.stretch(n, t, shifts, d, end);
-        note_stretch(n, t, shifts, d, m, here, &mut tally[..]);
+        let place = Place(d as u16);
+        here = here.reach(n, t, shifts, place);
+        let m = here.stretch(n, t, shifts, place, end);
+        note_stretch(n, t, shifts, place, m, here, &mut tally[..]);
         d += m;
     }
     here
 }
 
-// Notes the places of the word of marks from byte i on, which lies in one section: no place is asked for its section.
+// Notes the places of the word of marks from byte i on, which lies in one section: no place is asked for its section. `first` is a number here, and stands
+// for the contract alone: an invariant cannot name a struct that its loop does not read.
 fn note_inside(
     n: usize,
     t: usize,
@@ -177,7 +159,7 @@ fn note_across(
     let mut rest = word;
     while rest != 0 {
         let c = 8 * i + u64::trailing_zeros(rest) as usize;
-        here = note_next(n, t, shifts, c, here, &mut tally[..]);
+        here = note_next(n, t, shifts, Place(c as u16), here, &mut tally[..]);
         rest = rest & (rest - 1);
     }
     here
@@ -189,26 +171,26 @@ fn note_word(
     t: usize,
     shifts: &[u16],
     marks: &[u8],
-    first: u16,
+    first: Place,
     i: usize,
     at: Section,
     tally: &mut [u16],
 ) -> Section
-    requires { ⌜ Lent n t (now shifts) (now marks) × (i < length (now marks)) × (first < 8 * i + 64) ⌝ }
+    requires { ⌜ Lent n t (now shifts) (now marks) × (i < length (now marks)) × (first .0 < 8 * i + 64) ⌝ }
     requires { ⌜ Reached n t (now shifts) (8 * i) (at .index) (at .begin) (at .end) (at .shift) ⌝ }
-    requires { ⌜ Scanned n t (now shifts) (now marks) first (8 * i) (now tally) ⌝ }
-    ensures { λ _. ⌜ Scanned n t (now (shifts .entry)) (now (marks .entry)) first (8 * i + 64) (now (tally .exit)) ⌝ }
+    requires { ⌜ Scanned n t (now shifts) (now marks) (first .0) (8 * i) (now tally) ⌝ }
+    ensures { λ _. ⌜ Scanned n t (now (shifts .entry)) (now (marks .entry)) (first .0) (8 * i + 64) (now (tally .exit)) ⌝ }
     ensures { λ r. ⌜ Reached n t (now (shifts .entry)) (8 * i + 64) (r .index) (r .begin) (r .end) (r .shift) ⌝ }
 {
     let c = 8 * i;
-    let word = word_from(marks, i, Place(first));
+    let word = word_from(marks, i, first);
     if word == u64::MAX {
         return note_places(n, t, shifts, c, c + 64, at, &mut tally[..]);
     }
     if at.end < c + 64 {
-        return note_across(n, t, shifts, marks, first, i, word, at, &mut tally[..]);
+        return note_across(n, t, shifts, marks, first.0, i, word, at, &mut tally[..]);
     }
-    note_inside(n, t, shifts, marks, first, i, word, at, &mut tally[..]);
+    note_inside(n, t, shifts, marks, first.0, i, word, at, &mut tally[..]);
     at
 }
 
@@ -221,7 +203,7 @@ pub fn note_marks(n: usize, t: usize, shifts: &[u16], marks: &[u8], first: Place
     let mut at = Section::start(n, t, shifts);
     let mut i = pass_zeros(marks, first.0 as usize / 64 * 8);
     while i < marks.len() {
-        at = note_word(n, t, shifts, marks, first.0, i, at, &mut tally[..]);
+        at = note_word(n, t, shifts, marks, first, i, at, &mut tally[..]);
         i = pass_zeros(marks, i + 8);
     }
 }

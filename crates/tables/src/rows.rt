@@ -2,13 +2,18 @@
 ghost use mathlib.Core.Path.{_≡_};
 ghost use Prim.Native.Nat.{_+_, _-_, _*_, _≤_, _<_};
 ghost use lib.ListN.{length, getD, set};
+ghost use Rattle.bounds.specs.Bounds.{maxN, maxT};
 ghost use Rattle.plan.specs.Layout.{bottomRow};
+ghost use Rattle.tables.specs.Picture.{tallyUnit};
 ghost use Rattle.tables.specs.Beside.{Beside};
 use crate::walk::Spot;
 use plan::Row;
 
+// What each erasure adds to the tally of a row, beside its section.
+pub const TALLY_UNIT: u16 = 1024;
+
 pub fn top(spot: Spot) -> Row
-    requires { ⌜ spot .offset < 2048 ⌝ }
+    requires { ⌜ spot .offset < maxT ⌝ }
     ensures { λ r. ⌜ r .0 ≡ spot .offset ⌝ }
 {
     Row(spot.offset as u16)
@@ -16,7 +21,7 @@ pub fn top(spot: Spot) -> Row
 
 // p is the shift of the spot's section.
 pub fn bottom(spot: Spot, t: usize, p: usize) -> Row
-    requires { ⌜ (spot .offset < t) × (p < t) × (t ≤ 2048) ⌝ }
+    requires { ⌜ (spot .offset < t) × (p < t) × (t ≤ maxT) ⌝ }
     ensures { λ r. ⌜ r .0 ≡ bottomRow t p (spot .offset) ⌝ }
 {
     if p <= spot.offset {
@@ -27,10 +32,10 @@ pub fn bottom(spot: Spot, t: usize, p: usize) -> Row
 
 // What a place of this section adds to the tally of each of its rows.
 pub(crate) fn weight(section: usize) -> u16
-    requires { ⌜ section < 32 ⌝ }
-    ensures { λ r. ⌜ r ≡ 1024 + section ⌝ }
+    requires { ⌜ section < maxN ⌝ }
+    ensures { λ r. ⌜ r ≡ tallyUnit + section ⌝ }
 {
-    1024 + section as u16
+    TALLY_UNIT + section as u16
 }
 
 // One erasure more on the row: a place of weight w.
@@ -42,7 +47,8 @@ pub(crate) fn put_in(tally: &mut [u16], r: Row, w: u16)
     tally[i] = tally[i] + w;
 }
 
-// The place of a section on a row: its offset, and the row that it meets beside that one.
+// The place of a section on a row: its offset, and the row that it meets beside that one. Rows are numbers of machine width here: a turn of peeling waits for
+// the row before it, and narrowing that row makes it wait longer.
 pub struct Met {
     pub offset: usize,
     pub other: usize,
@@ -50,7 +56,7 @@ pub struct Met {
 
 // p is the section's shift. The inner tests only decide whether t is added or taken off: the outcome is hard to foresee, and of this form no branch is made.
 pub fn beside(t: usize, p: usize, row: usize) -> Met
-    requires { ⌜ (p < t) × (row < 2 * t) × (t ≤ 2048) ⌝ }
+    requires { ⌜ (p < t) × (row < 2 * t) × (t ≤ maxT) ⌝ }
     ensures { λ r. ⌜ Beside t p row (r .offset) (r .other) ⌝ }
 {
     if t <= row {

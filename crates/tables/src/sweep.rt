@@ -9,6 +9,7 @@ use crate::rows::bottom;
 use crate::rows::top;
 use crate::rows::weight;
 use crate::walk::Spot;
+use plan::Row;
 
 // Adds w to each entry.
 fn raise(s: &mut [u16], w: u16)
@@ -22,15 +23,17 @@ fn raise(s: &mut [u16], w: u16)
     }
 }
 
-// Adds w to m entries from a on, and to those from b on.
-fn sweep(tally: &mut [u16], a: usize, b: usize, m: usize, w: u16)
-    requires { ⌜ Apart a b m (length (now tally)) × Room w (now tally) ⌝ }
-    ensures { λ _. ⌜ Swept (added w) a b m (now (tally .entry)) (now (tally .exit)) ⌝ }
+// Adds w to the m rows from `high` on, and to those from `low` on.
+fn sweep(tally: &mut [u16], high: Row, low: Row, m: usize, w: u16)
+    requires { ⌜ Apart (high .0) (low .0) m (length (now tally)) × Room w (now tally) ⌝ }
+    ensures { λ _. ⌜ Swept (added w) (high .0) (low .0) m (now (tally .entry)) (now (tally .exit)) ⌝ }
 {
-    let high = a + m;
-    let low = b + m;
-    raise(&mut tally[a..high], w);
-    raise(&mut tally[b..low], w);
+    let a = high.0 as usize;
+    let b = low.0 as usize;
+    let high_end = a + m;
+    let low_end = b + m;
+    raise(&mut tally[a..high_end], w);
+    raise(&mut tally[b..low_end], w);
 }
 
 // Notes the m places from the spot on; p is the shift of their section.
@@ -40,7 +43,7 @@ pub(crate) fn note_run(t: usize, p: usize, m: usize, spot: Spot, tally: &mut [u1
     ensures { λ _. ⌜ Run t p (spot .section) (spot .offset) m (now (tally .entry)) (now (tally .exit)) ⌝ }
 {
     let w = weight(spot.section);
-    let a = top(spot).0 as usize;
-    let b = bottom(spot, t, p).0 as usize;
-    sweep(&mut tally[..], a, b, m, w);
+    let high = top(spot);
+    let low = bottom(spot, t, p);
+    sweep(&mut tally[..], high, low, m, w);
 }

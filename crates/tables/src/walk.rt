@@ -2,7 +2,7 @@
 ghost use mathlib.Core.Path.{_≡_};
 ghost use Prim.Native.Nat.{_+_, _-_, _*_, _≤_, _<_, min};
 ghost use lib.ListN.{getD};
-ghost use Rattle.tables.specs.Picture.{Sized};
+ghost use Rattle.plan.specs.GoodPlan.{GoodPlan};
 ghost use Rattle.tables.specs.Spots.{Reached};
 ghost use Rattle.tables.specs.Stretches.{Stretch};
 use plan::Place;
@@ -24,7 +24,7 @@ pub struct Section {
 impl Section {
     // Section 0.
     pub fn start(n: usize, t: usize, shifts: &[u16]) -> Section
-        requires { ⌜ Sized n t (now shifts) ⌝ }
+        requires { ⌜ GoodPlan n t (now shifts) ⌝ }
         ensures { λ r. ⌜ Reached n t (now (shifts .entry)) 0 (r .index) (r .begin) (r .end) (r .shift) ⌝ }
     {
         Section {
@@ -36,16 +36,17 @@ impl Section {
     }
 
     // The section of place c, which is this one or a later one: nearly always this one.
-    pub(crate) fn reach(self, n: usize, t: usize, shifts: &[u16], c: usize) -> Section
-        requires { ⌜ Sized n t (now shifts) × Reached n t (now shifts) c (self .index) (self .begin) (self .end) (self .shift) × (c < n * t) ⌝ }
-        ensures { λ r. ⌜ Reached n t (now (shifts .entry)) c (r .index) (r .begin) (r .end) (r .shift) × (c < r .end) ⌝ }
+    pub(crate) fn reach(self, n: usize, t: usize, shifts: &[u16], c: Place) -> Section
+        requires { ⌜ GoodPlan n t (now shifts) × Reached n t (now shifts) (c .0) (self .index) (self .begin) (self .end) (self .shift) × (c .0 < n * t) ⌝ }
+        ensures { λ r. ⌜ Reached n t (now (shifts .entry)) (c .0) (r .index) (r .begin) (r .end) (r .shift) × (c .0 < r .end) ⌝ }
     {
-        if c < self.end {
+        let place = c.0 as usize;
+        if place < self.end {
             return self;
         }
         let mut index = self.index;
         let mut end = self.end;
-        while end <= c {
+        while end <= place {
             index += 1;
             end += t;
         }
@@ -58,12 +59,13 @@ impl Section {
     }
 
     // The number of places from c on whose bottom rows follow on each other, before this section's end and before `end`.
-    pub(crate) fn stretch(self, n: usize, t: usize, shifts: &[u16], c: usize, end: usize) -> usize
-        requires { ⌜ Sized n t (now shifts) × Reached n t (now shifts) c (self .index) (self .begin) (self .end) (self .shift) × (c < self .end) × (c < end) ⌝ }
-        ensures { λ r. ⌜ Stretch t (self .shift) (c - self .begin) r × (0 < r) × (c + r ≤ end) ⌝ }
+    pub(crate) fn stretch(self, n: usize, t: usize, shifts: &[u16], c: Place, end: usize) -> usize
+        requires { ⌜ GoodPlan n t (now shifts) × Reached n t (now shifts) (c .0) (self .index) (self .begin) (self .end) (self .shift) × (c .0 < self .end) × (c .0 < end) ⌝ }
+        ensures { λ r. ⌜ Stretch t (self .shift) (c .0 - self .begin) r × (0 < r) × (c .0 + r ≤ end) ⌝ }
     {
-        let k = c - self.begin;
-        let m = least(self.end - c, end - c);
+        let place = c.0 as usize;
+        let k = place - self.begin;
+        let m = least(self.end - place, end - place);
         if k < self.shift {
             return least(m, self.shift - k);
         }

@@ -2,3 +2,4 @@
 pub mod Sheets
 pub mod Turns
 pub mod TurnLaws
+pub mod TurnsOnce

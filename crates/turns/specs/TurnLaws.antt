@@ -7,7 +7,11 @@ use mathlib.Core.List.{List, [], _∷_}
 use Prim.Native.Nat.{ℕ}
 use native.Mathlib.Omega.{arith}
 use lib.ListN.{getD}
-use Rattle.commands.specs.Commands.{sizeOf, parsed, unknownNumber, shortNumber}
+use Rattle.refusals.specs.Refusals.{numberOf}
+use Rattle.refusals.specs.declared.Refusal.{Refusal}
+use Rattle.refusals.specs.declared.Check.{Check}
+use Rattle.refusals.specs.declared.Check.the-variants as check
+use Rattle.commands.specs.Commands.{sizeOf, parsed, parsedCheck}
 use Rattle.commands.specs.declared.Command.{Command}
 use Rattle.commands.specs.declared.Parsed.{Parsed}
 use Rattle.commands.specs.declared.Parsed.the-variants.{Whole, Unknown, Short, Nothing}
@@ -83,7 +87,7 @@ module _ {h : Held} {v m l b : List ℕ} {last : Bool} {offset : ℕ} {turn : Tu
     goes-on = λ c q _. absurd (not-short-whole p q);
   }
 
-  pub on-short : parsed b ≡ Short → last ≡ true → Stops shortNumber offset l turn l' → Same h v m h' v' m' → Turns h v m l b last offset turn h' v' m' l'
+  pub on-short : parsed b ≡ Short → last ≡ true → Stops (parsedCheck Short) offset l turn l' → Same h v m h' v' m' → Turns h v m l b last offset turn h' v' m' l'
   on-short p f t s = record {
     nothing-yet = λ q _. absurd (not-nothing-short q p);
     cut-yet = λ _ q. absurd (not-both f q);
@@ -94,7 +98,7 @@ module _ {h : Held} {v m l b : List ℕ} {last : Bool} {offset : ℕ} {turn : Tu
     goes-on = λ c q _. absurd (not-short-whole p q);
   }
 
-  pub on-unknown : parsed b ≡ Unknown → Stops unknownNumber offset l turn l' → Same h v m h' v' m' → Turns h v m l b last offset turn h' v' m' l'
+  pub on-unknown : parsed b ≡ Unknown → Stops (parsedCheck Unknown) offset l turn l' → Same h v m h' v' m' → Turns h v m l b last offset turn h' v' m' l'
   on-unknown p t s = record {
     nothing-yet = λ q _. absurd (not-nothing-unknown q p);
     cut-yet = λ q _. absurd (not-short-unknown q p);
@@ -105,9 +109,9 @@ module _ {h : Held} {v m l b : List ℕ} {last : Bool} {offset : ℕ} {turn : Tu
     goes-on = λ c q _. absurd (not-unknown-whole p q);
   }
 
-  pub on-refused : (c : Command) (number : ℕ) → parsed b ≡ Whole c → number ≡ refusalOf (stateOf h v m) c → number ≢ 0 → Stops number offset l turn l' →
+  pub on-refused : (c : Command) {k : Check} → parsed b ≡ Whole c → k ≡ refusalOf (stateOf h v m) c → k ≢ check.Pass → Stops k offset l turn l' →
       Same h v m h' v' m' → Turns h v m l b last offset turn h' v' m' l'
-  on-refused c number p e n t s = record {
+  on-refused c p e n t s = record {
     nothing-yet = λ q _. absurd (not-nothing-whole q p);
     cut-yet = λ q _. absurd (not-short-whole q p);
     ends = λ q _. absurd (not-nothing-whole q p);
@@ -117,7 +121,7 @@ module _ {h : Held} {v m l b : List ℕ} {last : Bool} {offset : ℕ} {turn : Tu
     goes-on = λ d q z. let f : c ≡ d = cc in absurd (n (e ∙ ap (refusalOf (stateOf h v m)) f ∙ z));
   }
 
-  pub on-acts : (c : Command) (size : ℕ) → parsed b ≡ Whole c → size ≡ sizeOf (getD b 0 0) → refusalOf (stateOf h v m) c ≡ 0 → Goes c size h v m l turn h' v' m' l' →
+  pub on-acts : (c : Command) (size : ℕ) → parsed b ≡ Whole c → size ≡ sizeOf (getD b 0 0) → refusalOf (stateOf h v m) c ≡ check.Pass → Goes c size h v m l turn h' v' m' l' →
       Turns h v m l b last offset turn h' v' m' l'
   on-acts c size p e r g = record {
     nothing-yet = λ q _. absurd (not-nothing-whole q p);
@@ -131,9 +135,11 @@ module _ {h : Held} {v m l b : List ℕ} {last : Bool} {offset : ℕ} {turn : Tu
   }
 
 -- the lines
-pub says-refused : {l l' : List ℕ} (number offset count : ℕ) → Wrote l (line refusedWord (number ∷ offset ∷ [])) l' count → Stops number offset l (Stop count) l'
+pub says-refused : {l l' : List ℕ} (x : Refusal) (offset count : ℕ) {number : ℕ} → number ≡ numberOf x → Wrote l (line refusedWord (number ∷ offset ∷ [])) l' count →
+    Stops (check.Stop x) offset l (Stop x count) l'
 unfolding refusedLine
-says-refused number offset count w = record { count = count; stopped = refl; wrote = w }
+says-refused {l} {l'} x offset count e w =
+    record { refusal = x; at = refl; count = count; stopped = refl; number = refl; length = refl; wrote = subst (λ n. Wrote l (line refusedWord (n ∷ offset ∷ [])) l' count) e w }
 
 pub says-end : {l l' : List ℕ} (count : ℕ) → Wrote l (line endWord []) l' count → Ends l (End count) l'
-says-end count w = record { count = count; ended = refl; wrote = w }
+says-end count w = record { count = count; ended = refl; length = refl; wrote = w }

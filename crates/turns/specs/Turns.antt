@@ -1,12 +1,18 @@
 -- What one turn of a job does (01, "The job and its sheet").
--- Main definitions: Stops, Same, Ends, Goes, Turns.
+-- Main definitions: turnNumber, turnUsed, turnWrote, Stops, Same, Ends, Goes, Turns.
 use mathlib.Core.Path.{_≡_}
 use mathlib.Core.Logic.{_≢_}
 use mathlib.Core.Bool.{Bool, true, false}
 use mathlib.Core.List.{List, []}
 use Prim.Native.Nat.{ℕ}
-use lib.ListN.{getD, replicate}
-use Rattle.commands.specs.Commands.{sizeOf, parsed, unknownNumber, shortNumber}
+use lib.ListN.{getD}
+use Rattle.refusals.specs.Refusals.{numberOf, checkNumber}
+use Rattle.refusals.specs.declared.Refusal.{Refusal}
+use Rattle.refusals.specs.declared.Check.{Check}
+use Rattle.refusals.specs.declared.Check.the-variants as check
+use Rattle.plan.specs.Plans.{noPlan}
+use Rattle.plan.specs.declared.Plan.{Plan}
+use Rattle.commands.specs.Commands.{sizeOf, parsed, parsedCheck}
 use Rattle.commands.specs.declared.Command.{Command}
 use Rattle.commands.specs.declared.Parsed.the-variants.{Whole, Unknown, Short, Nothing}
 use Rattle.lines.specs.Lines.{line, endWord, Wrote}
@@ -15,17 +21,46 @@ use Rattle.act.specs.Acts.{stateOf, Acts}
 use Rattle.act.specs.declared.Held.{Held}
 use Rattle.turns.specs.Sheets.{refusedLine}
 use Rattle.turns.specs.declared.Turn.{Turn}
-use Rattle.turns.specs.declared.Turn.the-variants.{Wait, End, Stop, On}
+use Rattle.turns.specs.declared.Turn.the-variants.{Wait, End, Stop, On, Bad}
 
 -- before the first plan, over buffers of any content
-abbrev pub unplanned : Held
-unplanned = record { planned = false; plan = record { n = 0; t = 0; shifts = replicate 32 0 } }
+abbrev pub withoutPlan : Plan → Held
+withoutPlan p = record { planned = false; plan = p }
 
--- the job stops: the line `refused` was written, with this number and offset
-pub record Stops (number offset : ℕ) (l : List ℕ) (turn : Turn) (l' : List ℕ) : Type 0 where
+abbrev pub unplanned : Held
+unplanned = withoutPlan noPlan
+
+-- 01's number of a turn, and its values: the bytes of the job that it used, and those of the line that it wrote
+abbrev pub turnNumber : Turn → ℕ
+turnNumber Wait = 0
+turnNumber (End count) = 0
+turnNumber (Stop x count) = numberOf x
+turnNumber (On size count) = 0
+turnNumber (Bad x) = numberOf x
+
+abbrev pub turnUsed : Turn → ℕ
+turnUsed Wait = 0
+turnUsed (End count) = 0
+turnUsed (Stop x count) = 0
+turnUsed (On size count) = size
+turnUsed (Bad x) = 0
+
+abbrev pub turnWrote : Turn → ℕ
+turnWrote Wait = 0
+turnWrote (End count) = count
+turnWrote (Stop x count) = count
+turnWrote (On size count) = count
+turnWrote (Bad x) = 0
+
+-- the job stops at what refuses it: the line `refused` was written, with the number of that and this offset
+pub record Stops (c : Check) (offset : ℕ) (l : List ℕ) (turn : Turn) (l' : List ℕ) : Type 0 where
+  pub refusal : Refusal
+  pub at : c ≡ check.Stop refusal
   pub count : ℕ
-  pub stopped : turn ≡ Stop count
-  pub wrote : Wrote l (refusedLine number offset) l' count
+  pub stopped : turn ≡ Stop refusal count
+  pub number : turnNumber turn ≡ checkNumber c
+  pub length : turnWrote turn ≡ count
+  pub wrote : Wrote l (refusedLine c offset) l' count
 
 -- nothing but the line may have changed
 pub record Same (h : Held) (v m : List ℕ) (h' : Held) (v' m' : List ℕ) : Type 0 where
@@ -37,12 +72,15 @@ pub record Same (h : Held) (v m : List ℕ) (h' : Held) (v' m' : List ℕ) : Typ
 pub record Ends (l : List ℕ) (turn : Turn) (l' : List ℕ) : Type 0 where
   pub count : ℕ
   pub ended : turn ≡ End count
+  pub length : turnWrote turn ≡ count
   pub wrote : Wrote l (line endWord []) l' count
 
 -- the command was performed, its text was written, and these bytes of it were used; where the text is empty the line buffer is as before
 pub record Goes (c : Command) (size : ℕ) (h : Held) (v m l : List ℕ) (turn : Turn) (h' : Held) (v' m' l' : List ℕ) : Type 0 where
   pub count : ℕ
   pub on : turn ≡ On size count
+  pub used : turnUsed turn ≡ size
+  pub length : turnWrote turn ≡ count
   pub text : List ℕ
   pub wrote : Wrote l text l' count
   pub acts : Acts c h v m text h' v' m'
@@ -55,9 +93,9 @@ pub record Turns (h : Held) (v m l b : List ℕ) (last : Bool) (offset : ℕ) (t
   -- "`end` closes a job that ran out at a command's boundary"
   pub ends : parsed b ≡ Nothing → last ≡ true → Ends l turn l' × Same h v m h' v' m'
   -- 7, "unknown first byte in a job"; 8, "the job ends inside a command"; then 9 and the others of the command
-  pub unknown : parsed b ≡ Unknown → Stops unknownNumber offset l turn l' × Same h v m h' v' m'
-  pub short : parsed b ≡ Short → last ≡ true → Stops shortNumber offset l turn l' × Same h v m h' v' m'
-  pub refused : (c : Command) → parsed b ≡ Whole c → refusalOf (stateOf h v m) c ≢ 0 →
+  pub unknown : parsed b ≡ Unknown → Stops (parsedCheck Unknown) offset l turn l' × Same h v m h' v' m'
+  pub short : parsed b ≡ Short → last ≡ true → Stops (parsedCheck Short) offset l turn l' × Same h v m h' v' m'
+  pub refused : (c : Command) → parsed b ≡ Whole c → refusalOf (stateOf h v m) c ≢ check.Pass →
       Stops (refusalOf (stateOf h v m) c) offset l turn l' × Same h v m h' v' m'
   -- otherwise the command is performed
-  pub goes-on : (c : Command) → parsed b ≡ Whole c → refusalOf (stateOf h v m) c ≡ 0 → Goes c (sizeOf (getD b 0 0)) h v m l turn h' v' m' l'
+  pub goes-on : (c : Command) → parsed b ≡ Whole c → refusalOf (stateOf h v m) c ≡ check.Pass → Goes c (sizeOf (getD b 0 0)) h v m l turn h' v' m' l'

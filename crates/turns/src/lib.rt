@@ -1,27 +1,43 @@
 // One turn of a job: what comes of it, and the turns that perform no command.
-// Entries: start, at_end, unknown, cut_off, stop.
+// Entries: Turn::number, start. The rest is public for the crates above only.
 ghost use mathlib.Core.Path.{_≡_};
 ghost use mathlib.Core.Bool.{Bool};
 ghost use mathlib.Core.List.{List};
 ghost use Prim.Native.Nat.{ℕ};
 ghost use lib.ListN.{length};
 ghost use Rattle.lines.specs.Lines.{lineLength};
+ghost use Rattle.refusals.specs.declared.Check.the-variants as check;
 ghost use Rattle.commands.specs.Commands.{parsed};
 ghost use Rattle.commands.specs.declared.Parsed.the-variants as parsedAs;
-ghost use Rattle.turns.specs.Turns.{Stops, Turns, unplanned};
+ghost use Rattle.turns.specs.Turns.{turnNumber, Stops, Turns, unplanned};
 use act::Held;
-use calls::Refusal;
 use lines::end_line;
 use lines::refused_line;
 use plan::Plan;
+use refusals::Refusal;
 
-// What comes of the bytes at hand. On: the bytes used and the length of the line. End, Stop: the length of the last line.
+// What comes of the bytes at hand. On: the bytes used and the length of the line. End, Stop: the length of the last line. Bad: what refuses the lent state.
 pub enum Turn {
     Wait,
     End(usize),
-    Stop(usize),
+    Stop(Refusal, usize),
     On(usize, usize),
     Bad(Refusal),
+}
+
+impl Turn {
+    // 01's number of the turn.
+    pub fn number(self) -> u8
+        ensures { λ r. ⌜ r ≡ turnNumber self ⌝ }
+    {
+        match self {
+            Turn::Wait => 0,
+            Turn::End(_) => 0,
+            Turn::Stop(x, _) => x.number(),
+            Turn::On(_, _) => 0,
+            Turn::Bad(x) => x.number(),
+        }
+    }
 }
 
 // A turn, and the plan after it.
@@ -36,11 +52,7 @@ pub fn start() -> Held
 {
     Held {
         planned: false,
-        plan: Plan {
-            n: 0,
-            t: 0,
-            shifts: [0; 32],
-        },
+        plan: Plan::none(),
     }
 }
 
@@ -67,7 +79,7 @@ pub fn unknown(held: Held, line: &mut [u8], offset: u64) -> Step
     requires { ⌜ length (now line) ≡ lineLength ⌝ }
     ensures { λ r. ⌜ ((v m b : List ℕ) (last : Bool) → parsed b ≡ parsedAs.Unknown → Turns held v m (now (line .entry)) b last offset (r .turn) (r .held) v m (now (line .exit))) ⌝ }
 {
-    stop(held, line, 7, offset)
+    stop(held, line, Refusal::Command, offset)
 }
 
 // The bytes end inside a command.
@@ -81,17 +93,17 @@ pub fn cut_off(held: Held, line: &mut [u8], last: bool, offset: u64) -> Step
             held,
         };
     }
-    stop(held, line, 8, offset)
+    stop(held, line, Refusal::Short, offset)
 }
 
 // The refusal is written; nothing else changes.
-pub fn stop(held: Held, line: &mut [u8], number: u8, offset: u64) -> Step
+pub fn stop(held: Held, line: &mut [u8], x: Refusal, offset: u64) -> Step
     requires { ⌜ length (now line) ≡ lineLength ⌝ }
-    ensures { λ r. ⌜ (r .held ≡ held) × Stops number offset (now (line .entry)) (r .turn) (now (line .exit)) ⌝ }
+    ensures { λ r. ⌜ (r .held ≡ held) × Stops (check.Stop x) offset (now (line .entry)) (r .turn) (now (line .exit)) ⌝ }
 {
-    let count = refused_line(line, number, offset);
+    let count = refused_line(line, x.number(), offset);
     Step {
-        turn: Turn::Stop(count),
+        turn: Turn::Stop(x, count),
         held,
     }
 }

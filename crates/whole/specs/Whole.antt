@@ -15,7 +15,7 @@ use Rattle.code.specs.Marks.{mark, erasures}
 use Rattle.code.specs.Laws.MarksLaws.{in-erasures}
 use Rattle.tables.specs.Scan.{Lent}
 use Rattle.sums.specs.SumLaws.{Syndromes}
-use Rattle.settling.specs.Fill.{allZero, allZero-at}
+use Rattle.slices.specs.Zeros.{allZero, allZero-at}
 use Rattle.promises.specs.Promises.{Decides}
 use Rattle.promises.specs.Building.{decides-recovered}
 use Rattle.promises.specs.declared.Recovery.{Recovery}

@@ -9,9 +9,9 @@ ghost use Rattle.tables.specs.Zeros.{Zeros};
 ghost use Rattle.whole.specs.Whole.{Summed, Intact};
 use promises::Recovery;
 use settling::fill::fill;
-use settling::zeros::zero_bytes;
+use slices::clear_words;
+use slices::zero_bytes;
 use sums::syndromes;
-use tables::marks::clear_words;
 
 // The row sums of the block. The answer: no place is marked and every row sums to 0, so the block is the codeword.
 pub fn intact(

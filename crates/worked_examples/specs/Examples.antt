@@ -1,5 +1,5 @@
 -- The specimen table of document 01, proved of the definitions: what a reader can hold against the paper, row by row.
--- `Specimens` is the table; its one value is `specimens` of Proofs.
+-- `Specimens` is the table; its one value is `specimens` of Proofs. The sample job and its whole sheet join it in `SpecimenTable` (crate worked_sheet).
 use mathlib.Core.Path.{_≡_}
 use mathlib.Core.List.{List, [], _∷_}
 use Prim.Native.Nat.{ℕ, _<_}

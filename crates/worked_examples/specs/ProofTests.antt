@@ -82,14 +82,18 @@ valid-by-test n t shifts h =
 
 -- ---- codewords
 
+pub bytes-by-test : (v : List ℕ) → every (λ x. ltb x 256) v ≡ true → (c : ℕ) → at v c < 256
+bytes-by-test v h c =
+    by-cases (decLt c (length v))
+    (λ l. ltb-true (at v c) 256 (every-∈ (λ x. ltb x 256) h (getD-∈ v l)))
+    (λ l. rw (List·getD-eq-default v 0 {n = c} (omega arith)) (omega arith))
+
 pub codeword-by-test : (L : Layout) (v : List ℕ) → length v ≡ L .n * L .t → every (λ x. ltb x 256) v ≡ true →
     every (λ r. eqb (syndrome L (at v) r) 0) (rows L) ≡ true → Codeword L v
 codeword-by-test L v len bytes sums =
     record {
       whole = len;
-      symbols = λ c. by-cases (decLt c (length v))
-          (λ h. ltb-true (at v c) 256 (every-∈ (λ x. ltb x 256) bytes (getD-∈ v h)))
-          (λ h. rw (List·getD-eq-default v 0 {n = c} (omega arith)) (omega arith));
+      symbols = bytes-by-test v bytes;
       sums = λ r h. eqb-true (syndrome L (at v) r) 0 (every-∈ (λ r. eqb (syndrome L (at v) r) 0) sums (∈-rows L h));
     }
 

@@ -45,7 +45,7 @@ loose-by-cycle L ok E l er cy = two L ok E (replicate (L .n * L .t) 0) (replicat
 
 -- ---- the job: n 3, t 7, shifts 0 1 3
 
-job-valid : Valid job
+pub job-valid : Valid job
 unfolding every upTo from
 job-valid = valid-by-test 3 7 (0 ∷ 1 ∷ 3 ∷ []) refl
 

@@ -1,8 +1,9 @@
 -- `none_from` meets its contract: the rest of the first byte decides, or the bytes after it. Assumes nothing.
-use Rattle.bits.specs.ByteLaws.{none-past, none-clear, none-set}
 use mathlib.Core.Path.{sym, _∙_}
 use native.Mathlib.Omega.{arith}
 use borrow.Author.Needs.{needs}
+use Rattle.bits.specs.ByteLaws.{none-past, none-clear, none-set}
+use Rattle.bits.specs.Stretches.{zero-rest}
 use Rattle.bits.proofs.none_from.Statement.{statement}
 use Rattle.bits.proofs.none_from.Tie as tie
 
@@ -21,14 +22,27 @@ shr-if2 c = search needs
 returns-2 : tie.Need-returns-2
 returns-2 c = none-set _ _ (c .before .before .if1 .left) (c .before .shared-slice-known2 .given _ .fits) (c .if2 .taken)
 
-add-bytes-clear : tie.Need-add-bytes-clear
-add-bytes-clear c = search needs
+add-next : tie.Need-add-next
+add-next c = search needs
 
-bytes-clear-requires : tie.Need-bytes-clear-requires
-bytes-clear-requires c κs = search needs
+sub-zero-bytes : tie.Need-sub-zero-bytes
+sub-zero-bytes c = search needs
+
+part-zero-bytes-start : tie.Need-part-zero-bytes-start
+part-zero-bytes-start c = search needs
+
+part-zero-bytes-end : tie.Need-part-zero-bytes-end
+part-zero-bytes-end c = search needs
+
+zero-bytes-requires : tie.Need-zero-bytes-requires
+zero-bytes-requires c κs = search needs
 
 returns-3 : tie.Need-returns-3
-returns-3 c = c .bytes-clear .ensures ∙ none-clear _ _ (c .before .before .before .if1 .left) (c .before .before .shared-slice-known2 .given _ .fits) (c .before .if2 .left)
+returns-3 c =
+    let byte = c .before .before .before .shared-slice-known2 .given in
+    c .zero-bytes .ensures
+    ∙ zero-rest _ _ (omega arith) (λ i. byte i .fits)
+    ∙ none-clear _ _ (c .before .before .before .before .if1 .left) (byte _ .fits) (c .before .before .if2 .left)
 
 pub none-from-spec : {M : Type 1} → statement M
 none-from-spec =
@@ -39,6 +53,9 @@ none-from-spec =
     cast-if2
     shr-if2
     returns-2
-    add-bytes-clear
-    bytes-clear-requires
+    add-next
+    sub-zero-bytes
+    part-zero-bytes-start
+    part-zero-bytes-end
+    zero-bytes-requires
     returns-3)

@@ -1,6 +1,6 @@
 -- `ones_of` meets its contract. Assumes nothing.
 use Rattle.bits.specs.ByteLaws.{byte-ones}
-use borrow.Author.Needs.{needs}
+use mathlib.Core.Path.{refl}
 use native.Mathlib.Omega.{arith}
 use Rattle.bits.proofs.ones_of.Statement.{statement}
 use Rattle.bits.proofs.ones_of.Tie as tie
@@ -9,7 +9,7 @@ cast-result : tie.Need-cast-result
 cast-result c = omega (arith, byte-ones {x = c .args .x} (omega arith))
 
 returns : tie.Need-returns
-returns c = search needs
+returns c = (refl, byte-ones {x = c .args .x} (omega arith))
 
 pub ones-of-spec : {M : Type 1} → statement M
 ones-of-spec = tie.close (tie.spec cast-result returns)

@@ -1,24 +1,20 @@
--- The plan is good, so there is a count.
-use mathlib.Core.Path.{_≡_, refl, sym, _∙_}
-use Rattle.calls.specs.CallsLaws.{message-is, message-not}
+-- `message_length` meets its contract. Assumes nothing.
+use Rattle.plan.specs.Plans.{layoutOf}
+use Rattle.plan.specs.PlanLaws.{good-bounds}
 use borrow.Author.Needs.{needs}
 use Rattle.blocks.proofs.message_length.Statement.{statement}
 use Rattle.blocks.proofs.message_length.Tie as tie
 
-message-count-requires : tie.Need-message-count-requires
-message-count-requires c κs = search needs
+slice-aggregate-message-places : tie.Need-slice-aggregate-message-places
+slice-aggregate-message-places c = search needs
 
-enum-known-k : tie.Need-enum-known-k
-enum-known-k c = search needs
-
-enum-told : tie.Need-enum-told
-enum-told c = search needs
+message-places-requires : tie.Need-message-places-requires
+message-places-requires c κs = good-bounds _ (c .before .before .pre)
 
 returns : tie.Need-returns
-returns c = message-is _ _ (c .before .before .before .before .pre) (sym (c .before .before .before .message-count .ensures) ∙ c .before .k .given .1)
-
-returns-2 : tie.Need-returns-2
-returns-2 c = absurd (message-not _ _ (c .before .before .before .pre) (sym (c .before .before .message-count .ensures) ∙ c .enum-told .given .1))
+unfolding layoutOf
+returns c = c .message-places .ensures
 
 pub message-length-spec : {M : Type 1} → statement M
-message-length-spec = tie.close (tie.spec message-count-requires enum-known-k enum-told returns returns-2)
+message-length-spec =
+    tie.close (tie.spec slice-aggregate-message-places message-places-requires returns)

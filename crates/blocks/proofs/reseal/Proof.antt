@@ -5,8 +5,9 @@ use Prim.Native.Nat.{_≤_}
 use lib.ListN.{length}
 use Rattle.plan.specs.Plans.{layoutOf}
 use Rattle.plan.specs.Layout.{layout}
+use Rattle.plan.specs.PlanLaws.{good-bounds}
 use Rattle.blocks.specs.Fronts.{zeros-long, back-room, back-same, back-front}
-use Rattle.blocks.specs.RecoverLaws.{plan-sized, count-most, carried}
+use Rattle.blocks.specs.RecoverLaws.{count-most, carried}
 use borrow.Author.Needs.{needs}
 use Rattle.blocks.proofs.reseal.Statement.{statement}
 use Rattle.blocks.proofs.reseal.Tie as tie
@@ -18,7 +19,7 @@ slice-aggregate-runs-2 : tie.Need-slice-aggregate-runs-2
 slice-aggregate-runs-2 c = search needs
 
 runs-requires : tie.Need-runs-requires
-runs-requires c κs = let l : length (c .before .before .before .before .args .plan .shifts) ≡ 32 = search needs in (plan-sized _ (c .before .before .before .before .pre .0) l, refl)
+runs-requires c κs = (good-bounds _ (c .before .before .before .before .pre .0), refl)
 
 slice-aggregate-gather : tie.Need-slice-aggregate-gather
 slice-aggregate-gather c = search needs

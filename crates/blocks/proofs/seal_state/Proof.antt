@@ -26,14 +26,14 @@ slice-aggregate-reseal c = let p = c .before .before .before .before .before .be
 reseal-requires : tie.Need-reseal-requires
 reseal-requires c κs = let p = c .before .before .before .before .before .before .before .pre in (p .0 .good (p .2), lent-whole (p .0) (p .2) .block-long, c .before .message-length .ensures)
 
-slice-relend-prefix-clear : tie.Need-slice-relend-prefix-clear
-slice-relend-prefix-clear c = let p = c .before .before .before .before .before .before .before .before .before .before .pre in bytes-fit _ (p .0 .good (p .2)) (c .before .before .before .before .before .before .before .before .before .before .args .marks .now) (p .0 .marks-long)
+slice-relend-prefix-clear-bytes : tie.Need-slice-relend-prefix-clear-bytes
+slice-relend-prefix-clear-bytes c = let p = c .before .before .before .before .before .before .before .before .before .before .pre in bytes-fit _ (p .0 .good (p .2)) (c .before .before .before .before .before .before .before .before .before .before .args .marks .now) (p .0 .marks-long)
 
-slice-aggregate-clear : tie.Need-slice-aggregate-clear
-slice-aggregate-clear c = let p = c .before .before .before .before .before .before .before .before .before .before .before .pre in front-long _ (c .before .before .before .before .before .before .before .before .before .before .before .args .marks .now) (bytes-fit _ (p .0 .good (p .2)) (c .before .before .before .before .before .before .before .before .before .before .before .args .marks .now) (p .0 .marks-long))
+slice-aggregate-clear-bytes : tie.Need-slice-aggregate-clear-bytes
+slice-aggregate-clear-bytes c = let p = c .before .before .before .before .before .before .before .before .before .before .before .pre in front-long _ (c .before .before .before .before .before .before .before .before .before .before .before .args .marks .now) (bytes-fit _ (p .0 .good (p .2)) (c .before .before .before .before .before .before .before .before .before .before .before .args .marks .now) (p .0 .marks-long))
 
-clear-requires : tie.Need-clear-requires
-clear-requires c κs = search needs
+clear-bytes-requires : tie.Need-clear-bytes-requires
+clear-bytes-requires c κs = search needs
 
 sealed-line-requires : tie.Need-sealed-line-requires
 sealed-line-requires c κs = omega (arith, c .before .before .before .before .before .before .before .before .before .before .before .before .before .before .before .pre .1)
@@ -51,9 +51,9 @@ returns : tie.Need-returns
 returns c =
     let p = c .before .before .before .before .before .before .before .before .before .before .before .before .before .before .before .before .before .before .pre in
     let e = c .before .before .sealed-line .ensures in (
-      sealed-acts (p .0) (p .2) _ _ (c .before .before .before .before .before .before .before .before .before .before .reseal .kept .1 .1 .0) (c .before .before .before .before .before .before .clear .kept .0) (c .before .before .before .before .before .before .before .before .before .before .reseal .ensures) (c .before .before .before .before .before .before .clear .ensures) (c .before .before .before .before .before .before .before .before .before .before .before .before .message-length .ensures) (e .text-stands),
+      sealed-acts (p .0) (p .2) _ _ (c .before .before .before .before .before .before .before .before .before .before .reseal .kept .1 .1 .0) (c .before .before .before .before .before .before .clear-bytes .kept .0) (c .before .before .before .before .before .before .before .before .before .before .reseal .ensures) (c .before .before .before .before .before .before .clear-bytes .ensures) (c .before .before .before .before .before .before .before .before .before .before .before .before .message-length .ensures) (e .text-stands),
       wrote-front e,
     )
 
 pub seal-state-spec : {M : Type 1} → statement M
-seal-state-spec = tie.close (tie.spec mul-places add-bytes message-length-requires slice-relend-prefix-reseal slice-aggregate-reseal reseal-requires slice-relend-prefix-clear slice-aggregate-clear clear-requires sealed-line-requires same-length same-length-2 same-length-3 returns)
+seal-state-spec = tie.close (tie.spec mul-places add-bytes message-length-requires slice-relend-prefix-reseal slice-aggregate-reseal reseal-requires slice-relend-prefix-clear-bytes slice-aggregate-clear-bytes clear-bytes-requires sealed-line-requires same-length same-length-2 same-length-3 returns)

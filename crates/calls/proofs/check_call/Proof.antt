@@ -1,51 +1,57 @@
--- `check_call` meets its contract: the verdict of the plan, then what the buffers say. Assumes nothing.
-use Rattle.calls.specs.CallsLaws.{stops-size, stops-shift, stops-family}
+-- `check_call` meets its contract. Assumes nothing.
+use Rattle.calls.specs.Calls.{checkOf}
+use Rattle.calls.specs.CallsLaws.{call-stop, call-lent}
+use Rattle.plan.specs.Plans.{layoutOf}
+use Rattle.plan.specs.PlanLaws.{good-bounds}
 use mathlib.Core.Path.{sym, _∙_}
+use native.Mathlib.Omega.{arith}
 use borrow.Author.Needs.{needs}
 use Rattle.calls.proofs.check_call.Statement.{statement}
 use Rattle.calls.proofs.check_call.Tie as tie
 
-verdict-requires : tie.Need-verdict-requires
-verdict-requires c κs = search needs
+check-requires : tie.Need-check-requires
+check-requires c κs = search needs
+
+enum-known-x : tie.Need-enum-known-x
+enum-known-x c = search needs
 
 enum-told : tie.Need-enum-told
 enum-told c = search needs
 
-check-buffers-requires : tie.Need-check-buffers-requires
-check-buffers-requires c κs = sym (c .before .before .verdict .ensures) ∙ c .enum-told .given .1
+slice-aggregate-message-length : tie.Need-slice-aggregate-message-length
+slice-aggregate-message-length c = search needs
 
-enum-told-2 : tie.Need-enum-told-2
-enum-told-2 c = search needs
+message-length-requires : tie.Need-message-length-requires
+message-length-requires c κs = good-bounds _ (sym (c .before .before .before .check .ensures) ∙ c .before .enum-told .given .1)
 
-enum-told-3 : tie.Need-enum-told-3
-enum-told-3 c = search needs
+lengths-fit-requires : tie.Need-lengths-fit-requires
+lengths-fit-requires c κs = let g = good-bounds _ (sym (c .before .before .before .before .check .ensures) ∙ c .before .before .enum-told .given .1) in (g .places-max, g .t-max)
 
-enum-told-4 : tie.Need-enum-told-4
-enum-told-4 c = search needs
+mul-check-lent : tie.Need-mul-check-lent
+mul-check-lent c = omega (arith, good-bounds _ (sym (c .before .before .before .before .before .check .ensures) ∙ c .before .before .before .enum-told .given .1))
+
+check-lent-requires : tie.Need-check-lent-requires
+check-lent-requires c κs = good-bounds _ (sym (c .before .before .before .before .before .check .ensures) ∙ c .before .before .before .enum-told .given .1) .places-max
 
 returns : tie.Need-returns
-returns c = search needs
+unfolding checkOf
+returns c = call-stop _ _ _ (sym (c .before .before .before .check .ensures) ∙ c .before .x .given .1)
 
 returns-2 : tie.Need-returns-2
-returns-2 c = stops-size _ _ _ (sym (c .before .before .verdict .ensures) ∙ c .enum-told2 .given .1)
-
-returns-3 : tie.Need-returns-3
-returns-3 c = stops-shift _ _ _ (sym (c .before .before .verdict .ensures) ∙ c .enum-told3 .given .1)
-
-returns-4 : tie.Need-returns-4
-returns-4 c = stops-family _ _ _ (sym (c .before .before .verdict .ensures) ∙ c .enum-told4 .given .1)
+unfolding layoutOf
+returns-2 c = call-lent _ _ _ _ (sym (c .before .before .before .before .before .before .check .ensures) ∙ c .before .before .before .before .enum-told .given .1) (c .check-lent .ensures) (c .before .lengths-fit .ensures) (c .before .before .message-length .ensures)
 
 pub check-call-spec : {M : Type 1} → statement M
 check-call-spec =
     tie.close
     (tie.spec
-    verdict-requires
+    check-requires
+    enum-known-x
     enum-told
-    check-buffers-requires
-    enum-told-2
-    enum-told-3
-    enum-told-4
+    slice-aggregate-message-length
+    message-length-requires
+    lengths-fit-requires
+    mul-check-lent
+    check-lent-requires
     returns
-    returns-2
-    returns-3
-    returns-4)
+    returns-2)

@@ -1,7 +1,8 @@
--- `erasure_count` meets its contract: a refusal of the call, or the ones of the marks. Assumes nothing.
+-- `erasure_count` meets its contract. Assumes nothing.
 use Rattle.calls.specs.Calls.{countLent}
 use Rattle.calls.specs.CallsLaws.{count-most, counted-pass, counted-stop}
-use Rattle.calls.specs.declared.Counted.the-variants.{Marks}
+use Rattle.refusals.specs.Refusals.{checkNumber}
+use Rattle.plan.specs.declared.Count.the-variants.{Is}
 use mathlib.Core.Path.{sym, _∙_, ap}
 use borrow.Author.Needs.{needs}
 use Rattle.calls.proofs.erasure_count.Statement.{statement}
@@ -23,12 +24,14 @@ enum-known-x c = search needs
 returns : tie.Need-returns
 unfolding countLent
 returns c =
-    ap Marks (c .count-ones .ensures)
-    ∙ counted-pass _ _ (sym (c .before .before .before .check-call .ensures) ∙ c .before .enum-told .given .1) (λ i. c .before .before .before .before .shared-slice-known .given i .fits)
+    let e = sym (c .before .before .before .check-call .ensures) ∙ c .before .enum-told .given .1 in
+    (ap Is (c .count-ones .ensures) ∙ counted-pass _ _ e (λ i. c .before .before .before .before .shared-slice-known .given i .fits), ap checkNumber (sym e))
 
 returns-2 : tie.Need-returns-2
 unfolding countLent
-returns-2 c = counted-stop _ _ _ (sym (c .before .before .before .check-call .ensures) ∙ c .before .x .given .1)
+returns-2 c =
+    let e = sym (c .before .before .before .check-call .ensures) ∙ c .before .x .given .1 in
+    (counted-stop _ _ _ e, ap checkNumber (sym e))
 
 pub erasure-count-spec : {M : Type 1} → statement M
 erasure-count-spec =

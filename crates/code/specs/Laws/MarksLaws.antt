@@ -1,10 +1,10 @@
 -- Marks as bits: the erasures that they say, setting and clearing one bit, and counting.
--- Main results: in-erasures, erasures-erased, set-mark, clear-mark, erasures-clear, markCount-split, markCount-byte, places-all, erasure-total.
+-- Main results: in-erasures, erasures-erased, set-mark, clear-mark, erasures-clear, markCount-split, markCount-byte, erasure-total.
 use mathlib.Core.Path.{_≡_, refl, sym, _∙_, ap, ap₂, subst}
 use mathlib.Core.Logic.{_≢_, _↔_, _⊎_, inl, inr, ⊎-elim, by-cases}
 use mathlib.Core.List.{List}
 use Prim.Native.Nat.{ℕ, zero, suc, _+_, _-_, _*_, _/_, _%_, _^_, _≤_, _<_, max, min}
-use native.Mathlib.Nat.{mod-lt, div-lt-iff-lt-mul, div-eq-of-lt, div-self, add-zero, add-suc, pow-suc}
+use native.Mathlib.Nat.{mod-lt, div-eq-of-lt, div-self, add-zero, add-suc, pow-suc}
 use native.Mathlib.Numerals.{one-add}
 use native.Mathlib.Decide.{ℕ-discrete, decLt}
 use native.Mathlib.Omega.{arith}
@@ -15,13 +15,14 @@ use lib.ListN.{length, getD, set}
 use lib.Seq.{getD-set-same, getD-set-other}
 use lib.Pow.{pow-pos, pow-lt, pow-add, shl-shr, shr-shr}
 use borrow.Author.Tests.{eq-eqb, ne-eqb, eqb-true}
-use Rattle.math.specs.Members.{_∈_, isIn, from, upTo, without, Rising}
-use Rattle.math.specs.MembersLaws.{∈-isIn, ∈-upTo, upTo-∈, from-∈, from-append, upTo-suc, ∈-keep, keep-∈, keep-all, rising-keep, rising-without, rising-ext, ∈-without, without-∈}
+use Rattle.math.specs.Members.{_∈_, from, upTo, without, Rising}
+use Rattle.math.specs.MembersLaws.{upTo-∈, from-∈, from-append, upTo-suc, ∈-keep, keep-∈, rising-keep, rising-without, rising-ext, ∈-without, without-∈}
 use Rattle.math.specs.Xor.{_⊕_, ⊕-bit}
 use Rattle.math.specs.Sums.{sumOver, only}
 use Rattle.math.specs.SumsLaws.{only-true, only-false, sumOver-ext, sumOver-zero, sumOver-append, length-keep-sum}
 use Rattle.plan.specs.Layout.{Layout}
 use Rattle.code.specs.Places.{places}
+pub use Rattle.code.specs.Places.{places-all}
 use Rattle.code.specs.Codewords.{bitOf}
 use Rattle.code.specs.Marks.{mark, markBytes, NoSpare, erasures, markCount}
 use Rattle.code.specs.Laws.Basics.{rising-places}
@@ -238,18 +239,12 @@ markCount-bytes m (suc k) h =
 
 -- a layout in which every section takes part
 module _ (L : Layout) (all : L .sections ≡ upTo (L .n)) (positive : 0 < L .t) where
-  pub places-all : places L ≡ upTo (L .n * L .t)
-  unfolding places
-  places-all =
-      keep-all (λ c. isIn (c / L .t) (L .sections)) (upTo (L .n * L .t))
-      (λ c k. rw all (∈-isIn (∈-upTo (div-lt-iff-lt-mul positive .1 (upTo-∈ (L .n * L .t) k)))))
-
   pub erasure-count : (m : List ℕ) → length (erasures L m) ≡ markCount m 0 (L .n * L .t)
   unfolding erasures markCount upTo
   erasure-count m =
       length-keep-sum (λ c. eqb (mark m c) 1) (places L)
       ∙ sumOver-ext (places L) (λ c. only (eqb (mark m c) 1) 1) (λ c. mark m c) (λ c _. only-mark m c)
-      ∙ ap (λ l. sumOver l (λ c. mark m c)) places-all
+      ∙ ap (λ l. sumOver l (λ c. mark m c)) (places-all L all positive)
 
 -- no spare bit counts
 pub marks-total : (L : Layout) (m : List ℕ) → length m ≡ markBytes L → NoSpare L m → ((i : ℕ) → getD m i 0 < 256) →

@@ -5,8 +5,8 @@ use crate::numbers::plus;
 use crate::numbers::remainder;
 use crate::numbers::times;
 use crate::numbers::wide16;
-use crate::second::refusals::of_plan;
-use crate::second::refusals::of_size;
+use crate::second::refusing::of_plan;
+use crate::second::refusing::of_size;
 use crate::second::rows::shift;
 use plan::Plan;
 
@@ -135,12 +135,12 @@ const RULERS: [u16; 114] = [
 
 fn refused(number: usize) -> Making {
     let shifts = [0u16; 32];
-    let plan = Plan { n: 0, t: 0, shifts };
+    let plan = Plan::raw(0, 0, shifts);
     Making { number, plan }
 }
 
 fn made(n: usize, t: usize, shifts: [u16; 32]) -> Making {
-    let plan = Plan { n, t, shifts };
+    let plan = Plan::raw(n, t, shifts);
     Making { number: 0, plan }
 }
 

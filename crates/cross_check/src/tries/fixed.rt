@@ -26,8 +26,8 @@ use crate::tries::lent;
 use crate::tries::lent::Lens;
 use crate::tries::plans;
 use crate::tries::seeded;
-use calls::Counted;
 use figures::Answer;
+use plan::Count;
 use plan::Plan;
 
 // The outcome, where it is the one that it must be.
@@ -41,7 +41,7 @@ fn sized(is_record: bool, n: usize, t: usize, known: usize) -> usize {
         return must(plans::verdict(given::plan_of(n, t, 9, 0)), known);
     }
     let shifts = [0u16; 32];
-    must(plans::of(Plan { n, t, shifts }, n), known)
+    must(plans::of(Plan::raw(n, t, shifts), n), known)
 }
 
 fn size_case(is_record: bool, i: usize) -> usize {
@@ -159,10 +159,10 @@ fn job_loose() -> usize {
     judged(job(6, 6, &known, &marks, &mut block), LOOSE)
 }
 
-fn is_marks(counted: Counted, known: usize) -> bool {
+fn is_marks(counted: Count, known: usize) -> bool {
     match counted {
-        Counted::Marks(k) => k == known,
-        Counted::Refused(_) => false,
+        Count::Is(k) => k == known,
+        Count::Not(_) => false,
     }
 }
 

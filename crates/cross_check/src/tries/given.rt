@@ -17,7 +17,7 @@ use crate::random::next;
 use crate::random::pick;
 use crate::random::seeded;
 use crate::second::messages;
-use crate::second::refusals;
+use crate::second::refusing;
 use crate::second::rows;
 use crate::tries::lent::Lens;
 use plan::Plan;
@@ -53,7 +53,7 @@ fn shapes(style: usize, n: usize, t: usize, seed: u64) -> [u16; 32] {
 // A plan of n sections of t symbols.
 pub(crate) fn plan_of(n: usize, t: usize, style: usize, seed: u64) -> Plan {
     let shifts = shapes(style, n, t, seed);
-    Plan { n, t, shifts }
+    Plan::raw(n, t, shifts)
 }
 
 // A plan of at most so many sections and symbols.
@@ -70,12 +70,12 @@ fn with_shift(plan: Plan, j: usize, p: usize) -> Plan {
     if j < 32 {
         shifts[j] = low16(p);
     }
-    Plan { n, t, shifts }
+    Plan::raw(n, t, shifts)
 }
 
 fn with_size(plan: Plan, n: usize, t: usize) -> Plan {
     let shifts = plan.shifts;
-    Plan { n, t, shifts }
+    Plan::raw(n, t, shifts)
 }
 
 fn spoilt_size(plan: Plan, fault: usize, seed: u64) -> Plan {
@@ -122,7 +122,7 @@ fn least_of_places(plan: Plan) -> usize {
 // The lengths that the plan asks for; any where the plan is refused.
 pub(crate) fn lens(plan: Plan) -> Lens {
     let block = least_of_places(plan);
-    if refusals::of_plan(plan) != 0 {
+    if refusing::of_plan(plan) != 0 {
         return Lens {
             block,
             marks: 5,
@@ -132,7 +132,7 @@ pub(crate) fn lens(plan: Plan) -> Lens {
     }
     Lens {
         block,
-        marks: refusals::mark_bytes(block),
+        marks: refusing::mark_bytes(block),
         list: rows::rows(plan),
         message: messages::count(plan),
     }

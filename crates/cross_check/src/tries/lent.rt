@@ -12,7 +12,7 @@ use crate::second::cycles;
 use crate::second::messages;
 use crate::second::outcomes;
 use crate::second::outcomes::Outcome;
-use crate::second::refusals;
+use crate::second::refusing;
 use crate::second::rows;
 use crate::tally::COUNTED;
 use crate::tally::CROSSED;
@@ -24,7 +24,7 @@ use crate::tally::RECOVERED;
 use crate::tally::SEALED;
 use crate::tally::judged;
 use crate::tally::refusal;
-use calls::Counted;
+use plan::Count;
 use plan::Plan;
 
 // How much of each buffer is lent.
@@ -41,15 +41,15 @@ const NONE: usize = 99;
 // The refusal of erasure_count where the plan is not refused, and of recover where its other lengths are not either.
 fn marks_number(plan: Plan, lens: Lens, marks: &Bytes) -> usize {
     let places = rows::places(plan);
-    if lens.marks != refusals::mark_bytes(places) {
+    if lens.marks != refusing::mark_bytes(places) {
         return 3;
     }
-    refusals::of_spare(places, marks)
+    refusing::of_spare(places, marks)
 }
 
 // The refusal of recover.
 fn recover_number(plan: Plan, lens: Lens, marks: &Bytes) -> usize {
-    let number = refusals::of_plan(plan);
+    let number = refusing::of_plan(plan);
     if number != 0 {
         return number;
     }
@@ -180,7 +180,7 @@ pub(crate) fn recover(
 }
 
 fn count_number(plan: Plan, lens: Lens, marks: &Bytes) -> usize {
-    let number = refusals::of_plan(plan);
+    let number = refusing::of_plan(plan);
     if number != 0 {
         return number;
     }
@@ -188,17 +188,17 @@ fn count_number(plan: Plan, lens: Lens, marks: &Bytes) -> usize {
 }
 
 // The outcome of a count, where the second implementation's answer is this number.
-fn counted(plan: Plan, number: usize, marks: &Bytes, answer: Counted) -> usize {
+fn counted(plan: Plan, number: usize, marks: &Bytes, answer: Count) -> usize {
     match answer {
-        Counted::Marks(k) => judged(
-            (number == 0) & (k == refusals::bits(marks, 0, rows::places(plan))),
+        Count::Is(k) => judged(
+            (number == 0) & (k == refusing::bits(marks, 0, rows::places(plan))),
             COUNTED,
         ),
-        Counted::Refused(x) => judged(wide8(x.number()) == number, refusal(number)),
+        Count::Not(x) => judged(wide8(x.number()) == number, refusal(number)),
     }
 }
 
-pub(crate) fn count_library(plan: Plan, lens: Lens, marks: &[u8]) -> Counted {
+pub(crate) fn count_library(plan: Plan, lens: Lens, marks: &[u8]) -> Count {
     let m = least(lens.marks, marks.len());
     calls::erasure_count(plan, &marks[0..m])
 }
@@ -210,7 +210,7 @@ pub(crate) fn count(plan: Plan, lens: Lens, marks: &Bytes) -> usize {
 
 // The refusal of encode and message_of.
 fn carry_number(plan: Plan, lens: Lens) -> usize {
-    let number = refusals::of_plan(plan);
+    let number = refusing::of_plan(plan);
     if number != 0 {
         return number;
     }

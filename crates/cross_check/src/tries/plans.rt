@@ -5,7 +5,7 @@ use crate::second::measures;
 use crate::second::messages;
 use crate::second::plans;
 use crate::second::plans::Making;
-use crate::second::refusals;
+use crate::second::refusing;
 use crate::second::rows::places;
 use crate::second::rows::shift;
 use crate::tally::FIGURES;
@@ -86,8 +86,8 @@ pub(crate) fn ruler(n: usize) -> usize {
 
 // The outcome of a plan's verdict.
 pub(crate) fn verdict(plan: Plan) -> usize {
-    let number = refusals::of_plan(plan);
-    if wide8(plan.verdict().number()) != number {
+    let number = refusing::of_plan(plan);
+    if wide8(plan.check().number()) != number {
         return MISMATCH;
     }
     plan_outcome(number)
@@ -125,7 +125,7 @@ fn figures_as(plan: Plan, number: usize, four: Four) -> usize {
 }
 
 pub(crate) fn figures(plan: Plan) -> usize {
-    let number = refusals::of_plan(plan);
+    let number = refusing::of_plan(plan);
     match figures::figures(plan) {
         Answer::Are(four) => figures_as(plan, number, four),
         Answer::Not(x) => refused_as(wide8(x.number()), number),
@@ -133,7 +133,7 @@ pub(crate) fn figures(plan: Plan) -> usize {
 }
 
 pub(crate) fn message_count(plan: Plan) -> usize {
-    let number = refusals::of_plan(plan);
+    let number = refusing::of_plan(plan);
     match plan.message_count() {
         Count::Is(k) => judged((number == 0) & (k == messages::count(plan)), FIGURES),
         Count::Not(x) => refused_as(wide8(x.number()), number),

@@ -1,6 +1,6 @@
 -- The tables of a block of zeros: sums of zeros, and the erasures counted.
 use borrow.Author.Needs.{needs}
-use Rattle.tables.specs.Filling.{cleared}
+use Rattle.slices.specs.Copying.{cleared}
 use Rattle.cycle.specs.Shows.{begun}
 use Rattle.cycle.proofs.picture_from.Statement.{statement}
 use Rattle.cycle.proofs.picture_from.Tie as tie

@@ -1,5 +1,6 @@
 -- `differences::all_distinct` meets its contract. The loop's invariant: the differences of the sections below i are marked. Assumes nothing.
 use Prim.Native.Nat.{_-_, _≤_}
+use Rattle.bounds.specs.Bounds.{maxT}
 use Rattle.differences.specs.Differences.{Marked}
 use Rattle.differences.specs.DifferencesLaws.{marked-start, rule-more, rule-breaks, rule-keeps}
 use borrow.Author.Needs.{needs}
@@ -9,13 +10,13 @@ use Rattle.differences.proofs.all_distinct.Statement.{statement}
 use Rattle.differences.proofs.all_distinct.Tie as tie
 
 abbrev Inv-loop : tie.InvT-loop
-Inv-loop n t s marks₀ i₀ marks i = (i ≤ n) × (length marks ≡ 2048) × Marked n t s i 0 marks
+Inv-loop n t s marks₀ i₀ marks i = (i ≤ n) × (length marks ≡ maxT) × Marked n t s i 0 marks
 
 abbrev μ-loop : tie.MeasureT-loop
 μ-loop n t s marks₀ i₀ marks i = n - i
 
 loop-holds : tie.Need-loop-holds Inv-loop μ-loop
-loop-holds c = (search needs, search needs, marked-start (c .before .pre .size .t-most))
+loop-holds c = (search needs, search needs, marked-start (c .before .pre .t-max))
 
 slice-aggregate-mark-row : tie.Need-slice-aggregate-mark-row Inv-loop μ-loop
 slice-aggregate-mark-row c = sym (c .before .before .loop .inv .1)

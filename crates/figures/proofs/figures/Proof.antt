@@ -1,15 +1,13 @@
--- `figures` meets its contract: a good plan has usable shifts, and any other verdict is handed on. Assumes nothing.
+-- `figures` meets its contract: the figures of a good plan, or its refusal handed on. Assumes nothing.
 use Rattle.figures.specs.AnswersLaws.{answered-good, answered-not}
-use Rattle.differences.specs.SectionsLaws.{good-usable}
+use Rattle.plan.specs.PlanLaws.{good-bounds}
+use mathlib.Core.Path.{sym, _∙_}
 use borrow.Author.Needs.{needs}
-use lib.ListN.{length}
-use mathlib.Core.Path.{_≡_, sym, _∙_}
-use native.Mathlib.Omega.{arith}
 use Rattle.figures.proofs.figures.Statement.{statement}
 use Rattle.figures.proofs.figures.Tie as tie
 
-verdict-requires : tie.Need-verdict-requires
-verdict-requires c κs = search needs
+check-requires : tie.Need-check-requires
+check-requires c κs = search needs
 
 enum-told : tie.Need-enum-told
 enum-told c = search needs
@@ -18,43 +16,25 @@ slice-aggregate-of-good : tie.Need-slice-aggregate-of-good
 slice-aggregate-of-good c = search needs
 
 of-good-requires : tie.Need-of-good-requires
-of-good-requires c κs =
-    let l : length (c .before .before .before .before .before .args .plan .shifts) ≡ 32 = search needs in
-    good-usable _ (sym (c .before .before .before .verdict .ensures) ∙ c .before .enum-told .given .1) l
+of-good-requires c κs = good-bounds _ (sym (c .before .before .before .check .ensures) ∙ c .before .enum-told .given .1)
 
-enum-told-2 : tie.Need-enum-told-2
-enum-told-2 c = search needs
-
-enum-told-3 : tie.Need-enum-told-3
-enum-told-3 c = search needs
-
-enum-told-4 : tie.Need-enum-told-4
-enum-told-4 c = search needs
+enum-known-x : tie.Need-enum-known-x
+enum-known-x c = search needs
 
 returns : tie.Need-returns
-returns c = answered-good _ (sym (c .before .before .before .before .verdict .ensures) ∙ c .before .before .enum-told .given .1) (c .of-good .ensures)
+returns c = answered-good _ (sym (c .before .before .before .before .check .ensures) ∙ c .before .before .enum-told .given .1) (c .of-good .ensures)
 
 returns-2 : tie.Need-returns-2
-returns-2 c = answered-not _ (sym (c .before .before .verdict .ensures) ∙ c .enum-told2 .given .1) (omega arith)
-
-returns-3 : tie.Need-returns-3
-returns-3 c = answered-not _ (sym (c .before .before .verdict .ensures) ∙ c .enum-told3 .given .1) (omega arith)
-
-returns-4 : tie.Need-returns-4
-returns-4 c = answered-not _ (sym (c .before .before .verdict .ensures) ∙ c .enum-told4 .given .1) (omega arith)
+returns-2 c = answered-not _ (sym (c .before .before .before .check .ensures) ∙ c .before .x .given .1)
 
 pub figures-spec : {M : Type 1} → statement M
 figures-spec =
     tie.close
     (tie.spec
-    verdict-requires
+    check-requires
     enum-told
     slice-aggregate-of-good
     of-good-requires
-    enum-told-2
-    enum-told-3
-    enum-told-4
+    enum-known-x
     returns
-    returns-2
-    returns-3
-    returns-4)
+    returns-2)

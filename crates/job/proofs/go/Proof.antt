@@ -1,5 +1,6 @@
--- Refused, or performed.
+-- A whole command is refused, or performed. Assumes nothing.
 use mathlib.Core.Path.{refl, sym, _∙_}
+use Rattle.refusals.specs.RefusalLaws.{pass-not-stop}
 use Rattle.act.specs.Acts.{stateOf}
 use Rattle.turns.specs.TurnLaws.{on-refused, on-acts}
 use borrow.Author.Needs.{needs}
@@ -9,32 +10,55 @@ use Rattle.job.proofs.go.Tie as tie
 refusal-requires : tie.Need-refusal-requires
 refusal-requires c κs = search needs
 
+enum-known-x : tie.Need-enum-known-x
+enum-known-x c = search needs
+
 stop-requires : tie.Need-stop-requires
-stop-requires c κs = c .before .before .before .before .before .before .before .pre .1
+stop-requires c κs = search needs
 
-same-length : tie.Need-same-length
-same-length c = c .before .before .stop .kept .1 .0
-
-returns : tie.Need-returns
-unfolding stateOf
-returns c = λ b last p e. on-refused _ _ p (c .before .before .before .before .before .refusal .ensures _ refl refl) (c .before .before .before .before .if1 .taken) (c .before .before .stop .ensures .1) (record { held = c .before .before .stop .ensures .0; block = refl; marks = refl })
+enum-told : tie.Need-enum-told
+enum-told c = search needs
 
 dispatch-requires : tie.Need-dispatch-requires
 unfolding stateOf
-dispatch-requires c κs = (c .before .before .before .before .before .before .before .before .before .pre .0, c .before .before .before .before .before .before .before .before .before .pre .1, sym (c .before .before .before .before .refusal .ensures _ refl refl) ∙ c .before .before .before .if1 .left)
+dispatch-requires c κs = (c .before .before .before .before .before .before .before .before .before .before .pre .0, c .before .before .before .before .before .before .before .before .before .before .pre .1, sym (c .before .before .before .before .before .refusal .ensures _ refl refl) ∙ c .before .before .before .enum-told .given .1)
+
+same-length : tie.Need-same-length
+same-length c = search needs
+
+returns : tie.Need-returns
+unfolding stateOf
+returns c =
+    λ b last p e. on-refused _ p (sym (c .before .before .before .before .before .x .given .1) ∙ c .before .before .before .before .before .before .before .refusal .ensures _ refl refl) (λ q. pass-not-stop _ (sym q)) (c .before .before .stop .ensures .1)
+    (record { held = c .before .before .stop .ensures .0; block = refl; marks = refl })
 
 same-length-2 : tie.Need-same-length-2
-same-length-2 c = c .before .before .before .before .before .before .before .dispatch .kept .1 .0
+same-length-2 c = search needs
 
 same-length-3 : tie.Need-same-length-3
-same-length-3 c = c .before .before .before .before .before .before .before .dispatch .kept .1 .1 .0
+same-length-3 c = search needs
 
 same-length-4 : tie.Need-same-length-4
-same-length-4 c = c .before .before .before .before .before .before .before .dispatch .kept .1 .1 .1 .0
+same-length-4 c = search needs
 
 returns-2 : tie.Need-returns-2
 unfolding stateOf
-returns-2 c = λ b last p e. on-acts _ _ p e (sym (c .before .before .before .before .before .before .before .before .before .before .before .before .refusal .ensures _ refl refl) ∙ c .before .before .before .before .before .before .before .before .before .before .before .if1 .left) (record { count = _; on = refl; text = _; wrote = c .before .before .before .before .before .before .before .dispatch .ensures .1; acts = c .before .before .before .before .before .before .before .dispatch .ensures .0 })
+returns-2 c =
+    λ b last p e. on-acts _ _ p e (sym (c .before .before .before .before .before .before .before .before .before .before .before .before .before .refusal .ensures _ refl refl) ∙ c .before .before .before .before .before .before .before .before .before .before .before .enum-told .given .1)
+    (record { count = _; on = refl; used = refl; length = refl; text = _; wrote = c .before .before .before .before .before .before .before .dispatch .ensures .1; acts = c .before .before .before .before .before .before .before .dispatch .ensures .0 })
 
 pub go-spec : {M : Type 1} → statement M
-go-spec = tie.close (tie.spec refusal-requires stop-requires same-length returns dispatch-requires same-length-2 same-length-3 same-length-4 returns-2)
+go-spec =
+    tie.close
+    (tie.spec
+    refusal-requires
+    enum-known-x
+    stop-requires
+    enum-told
+    dispatch-requires
+    same-length
+    returns
+    same-length-2
+    same-length-3
+    same-length-4
+    returns-2)

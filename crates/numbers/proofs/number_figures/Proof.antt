@@ -10,8 +10,8 @@ figures-requires c κs = search needs
 enum-known-f : tie.Need-enum-known-f
 enum-known-f c = search needs
 
-enum-known-v : tie.Need-enum-known-v
-enum-known-v c = search needs
+enum-known-x : tie.Need-enum-known-x
+enum-known-x c = search needs
 
 number-requires : tie.Need-number-requires
 number-requires c κs = search needs
@@ -22,9 +22,9 @@ returns c = figures-done _ _ (rw (c .before .f .given .1) at (c .before .before 
 returns-2 : tie.Need-returns-2
 returns-2 c =
     rw (c .number .ensures)
-    (figures-refused _ _ (rw (c .before .before .v .given .1) at (c .before .before .before .before .figures .ensures)))
+    (figures-refused _ _ (rw (c .before .before .x .given .1) at (c .before .before .before .before .figures .ensures)))
 
 pub number-figures-spec : {M : Type 1} → statement M
 number-figures-spec =
     tie.close
-    (tie.spec figures-requires enum-known-f enum-known-v number-requires returns returns-2)
+    (tie.spec figures-requires enum-known-f enum-known-x number-requires returns returns-2)

@@ -1,33 +1,22 @@
--- `number_message_count` meets its contract: the answer's number and its count, case by case. Assumes nothing.
+-- `number_message_count` meets its contract. Assumes nothing.
+use mathlib.Core.Path.{_∙_, ap}
+use Rattle.plan.specs.Plans.{countNumber, countValue}
 use borrow.Author.Needs.{needs}
-use mathlib.Core.Path.{sym, _∙_, ap}
-use Rattle.numbers.specs.Entries.{messageNumber, messageValue}
 use Rattle.numbers.proofs.number_message_count.Statement.{statement}
 use Rattle.numbers.proofs.number_message_count.Tie as tie
 
 message-count-requires : tie.Need-message-count-requires
 message-count-requires c κs = search needs
 
-enum-known-k : tie.Need-enum-known-k
-enum-known-k c = search needs
-
-enum-known-v : tie.Need-enum-known-v
-enum-known-v c = search needs
+value-requires : tie.Need-value-requires
+value-requires c κs = search needs
 
 number-requires : tie.Need-number-requires
 number-requires c κs = search needs
 
 returns : tie.Need-returns
-returns c =
-    let e = sym (c .before .k .given .1) ∙ c .before .before .before .message-count .ensures in
-    (ap messageNumber e, ap messageValue e)
-
-returns-2 : tie.Need-returns-2
-returns-2 c =
-    let e = sym (c .before .before .v .given .1) ∙ c .before .before .before .before .message-count .ensures in
-    (c .number .ensures ∙ ap messageNumber e, ap messageValue e)
+returns c = let e = c .before .before .message-count .ensures .0 in (c .number .ensures ∙ ap countNumber e, c .before .value .ensures ∙ ap countValue e)
 
 pub number-message-count-spec : {M : Type 1} → statement M
 number-message-count-spec =
-    tie.close
-    (tie.spec message-count-requires enum-known-k enum-known-v number-requires returns returns-2)
+    tie.close (tie.spec message-count-requires value-requires number-requires returns)

@@ -1,87 +1,84 @@
 -- `step_stored` meets its contract. Assumes nothing.
+use borrow.Author.Needs.{needs}
 use lib.ListN.{length-set}
 use mathlib.Core.Path.{refl}
 use native.Mathlib.Omega.{arith}
 use Rattle.tables.specs.Picture.{counts}
-use Rattle.peel.specs.Peels.{head-row, head-long, head-tally, head-one, steps-over, count-lt, count-long, rest-room, steps}
+use Rattle.peel.specs.Peels.{head-long, head-tally, head-one, steps-over, count-lt, count-long, rest-room, steps}
 use Rattle.peel.proofs.step_stored.Statement.{statement}
 use Rattle.peel.proofs.step_stored.Tie as tie
 
-mul-row : tie.Need-mul-row
-mul-row c = omega (arith, head-long (c .before .before .before .before .before .before .pre .0) (c .before .before .before .before .before .before .pre .1))
+row-at-requires : tie.Need-row-at-requires
+row-at-requires c κs = head-long (c .before .before .before .before .before .before .before .pre .0) (c .before .before .before .before .before .before .before .pre .1)
 
-slice-read-row : tie.Need-slice-read-row
-slice-read-row c = head-long (c .before .before .before .before .before .before .before .pre .0) (c .before .before .before .before .before .before .before .pre .1)
-
-cast-row : tie.Need-cast-row
-cast-row c = omega (arith, c .slice-known6 .given (c .before .before .before .before .before .before .before .args .head))
+cast-r : tie.Need-cast-r
+cast-r c = search needs
 
 mul-if1 : tie.Need-mul-if1
-mul-if1 c = omega (arith, head-row (c .before .before .before .before .before .before .before .pre .0) (c .before .before .before .before .before .before .before .pre .1), c .before .before .before .before .before .before .before .pre .0 .sized .t-max)
+mul-if1 c = search needs
 
 slice-read-if1 : tie.Need-slice-read-if1
-slice-read-if1 c = head-tally (c .before .before .before .before .before .before .before .before .pre .0) (c .before .before .before .before .before .before .before .before .pre .1)
+slice-read-if1 c = head-tally (c .before .before .before .before .before .before .before .before .before .before .pre .0) (c .before .before .before .before .before .before .before .before .before .before .pre .1) (c .before .before .row-at .ensures)
+
+same-length : tie.Need-same-length
+same-length c = search needs
 
 returns : tie.Need-returns
 unfolding counts
-returns c = steps-over (c .before .before .before .before .before .before .before .before .before .pre .0) (c .before .before .before .before .before .before .before .before .before .pre .1) (c .if1 .taken)
+returns c = steps-over (c .before .before .before .before .before .before .before .before .before .before .before .pre .0) (c .before .before .before .before .before .before .before .before .before .before .before .pre .1) (c .before .before .before .row-at .ensures) (c .if1 .taken)
 
 settle-requires : tie.Need-settle-requires
 unfolding counts
-settle-requires c κs = head-one (c .before .before .before .before .before .before .before .before .before .before .before .pre .0) (c .before .before .before .before .before .before .before .before .before .before .before .pre .1) (c .before .before .if1 .left)
+settle-requires c κs = head-one (c .before .before .before .before .before .before .before .before .before .before .before .before .before .pre .0) (c .before .before .before .before .before .before .before .before .before .before .before .before .before .pre .1) (c .before .before .before .before .before .row-at .ensures) (c .before .before .if1 .left)
 
 enter-stored-requires : tie.Need-enter-stored-requires
-enter-stored-requires c κs = rest-room (c .before .before .before .before .before .before .before .before .before .before .before .before .before .before .before .before .before .pre .0) (c .before .before .before .before .before .before .before .before .before .before .before .before .before .before .before .before .before .pre .1) (c .before .before .before .before .before .settle .ensures .0) (c .before .before .before .before .before .settle .ensures .1)
+enter-stored-requires c κs = rest-room (c .before .before .before .before .before .before .before .before .before .before .before .before .before .before .before .before .before .before .before .before .before .pre .0) (c .before .before .before .before .before .before .before .before .before .before .before .before .before .before .before .before .before .before .before .before .before .pre .1) (c .before .before .before .before .before .before .before .before .before .before .before .before .before .row-at .ensures) (c .before .before .before .before .before .before .before .settle .ensures .0) (c .before .before .before .before .before .before .before .settle .ensures .1)
 
-mul-place : tie.Need-mul-place
-mul-place c = omega (arith, count-lt (c .before .before .before .before .before .before .before .before .before .before .before .before .before .before .before .before .before .before .before .before .pre .0) (c .before .before .before .before .before .before .before .before .before .before .before .before .before .before .before .before .before .before .before .before .pre .1), c .before .before .before .before .before .before .before .before .before .before .before .before .before .before .before .before .before .before .before .before .pre .0 .sized .t-max)
-
-slice-write-place : tie.Need-slice-write-place
-slice-write-place c = count-long (c .before .before .before .before .before .before .before .before .before .before .before .before .before .before .before .before .before .before .before .before .pre .0) (c .before .before .before .before .before .before .before .before .before .before .before .before .before .before .before .before .before .before .before .before .pre .1) .0
+put-place-requires : tie.Need-put-place-requires
+put-place-requires c κs = count-long (c .before .before .before .before .before .before .before .before .before .before .before .before .before .before .before .before .before .before .before .before .before .before .before .before .before .pre .0) (c .before .before .before .before .before .before .before .before .before .before .before .before .before .before .before .before .before .before .before .before .before .before .before .before .before .pre .1) .0
 
 slice-write-value : tie.Need-slice-write-value
-slice-write-value c = count-long (c .before .before .before .before .before .before .before .before .before .before .before .before .before .before .before .before .before .before .before .before .pre .0) (c .before .before .before .before .before .before .before .before .before .before .before .before .before .before .before .before .before .before .before .before .pre .1) .1
+slice-write-value c = count-long (c .before .before .before .before .before .before .before .before .before .before .before .before .before .before .before .before .before .before .before .before .before .before .before .before .before .before .before .before .pre .0) (c .before .before .before .before .before .before .before .before .before .before .before .before .before .before .before .before .before .before .before .before .before .before .before .before .before .before .before .before .pre .1) .1
 
-add-t16 : tie.Need-add-t16
-add-t16 c = omega (arith, count-lt (c .before .before .before .before .before .before .before .before .before .before .before .before .before .before .before .before .before .before .before .before .pre .0) (c .before .before .before .before .before .before .before .before .before .before .before .before .before .before .before .before .before .before .before .before .pre .1), c .before .before .before .before .before .before .before .before .before .before .before .before .before .before .before .before .before .before .before .before .pre .0 .sized .t-max)
-
-same-length : tie.Need-same-length
-same-length c = c .before .before .before .before .before .before .before .before .settle .kept .1 .1 .1 .0
+add-t21 : tie.Need-add-t21
+add-t21 c = omega (arith, count-lt (c .before .before .before .before .before .before .before .before .before .before .before .before .before .before .before .before .before .before .before .before .before .before .before .before .before .before .before .before .pre .0) (c .before .before .before .before .before .before .before .before .before .before .before .before .before .before .before .before .before .before .before .before .before .before .before .before .before .before .before .before .pre .1), c .before .before .before .before .before .before .before .before .before .before .before .before .before .before .before .before .before .before .before .before .before .before .before .before .before .before .before .before .pre .0 .sized .t-max)
 
 same-length-2 : tie.Need-same-length-2
-same-length-2 c = c .before .before .before .before .before .before .before .before .settle .kept .1 .1 .1 .1 .0
+same-length-2 c = c .before .before .before .before .before .before .before .before .before .before .before .before .before .before .settle .kept .1 .1 .1 .0
 
 same-length-3 : tie.Need-same-length-3
-same-length-3 c = c .before .before .enter-stored .kept .0
+same-length-3 c = c .before .before .before .before .before .before .before .before .before .before .before .before .before .before .settle .kept .1 .1 .1 .1 .0
 
 same-length-4 : tie.Need-same-length-4
-same-length-4 c = simp length-set
+same-length-4 c = c .before .before .before .before .before .before .enter-stored .kept .0
 
 same-length-5 : tie.Need-same-length-5
-same-length-5 c = simp length-set
+same-length-5 c = c .before .before .put-place .kept .0
+
+same-length-6 : tie.Need-same-length-6
+same-length-6 c = simp length-set
 
 returns-2 : tie.Need-returns-2
-returns-2 c = steps (c .before .before .before .before .before .before .before .before .before .before .before .before .before .before .before .before .before .before .before .before .pre .0) (c .before .before .before .before .before .before .before .before .before .before .before .before .before .before .before .before .before .before .before .before .pre .1) (c .before .before .before .before .before .before .before .before .settle .ensures .0) (c .before .before .before .before .before .before .before .before .settle .ensures .1) (c .before .before .enter-stored .ensures) (c .before .before .enter-stored .kept .0) refl refl
+returns-2 c = steps (c .before .before .before .before .before .before .before .before .before .before .before .before .before .before .before .before .before .before .before .before .before .before .before .before .before .before .before .before .pre .0) (c .before .before .before .before .before .before .before .before .before .before .before .before .before .before .before .before .before .before .before .before .before .before .before .before .before .before .before .before .pre .1) (c .before .before .before .before .before .before .before .before .before .before .before .before .before .before .before .before .before .before .before .before .row-at .ensures) (c .before .before .before .before .before .before .before .before .before .before .before .before .before .before .settle .ensures .0) (c .before .before .before .before .before .before .before .before .before .before .before .before .before .before .settle .ensures .1) (c .before .before .before .before .before .before .enter-stored .ensures) (c .before .before .before .before .before .before .enter-stored .kept .0) (c .before .before .put-place .ensures) refl
 
 pub step-stored-spec : {M : Type 1} → statement M
 step-stored-spec =
     tie.close
     (tie.spec
-    mul-row
-    slice-read-row
-    cast-row
+    row-at-requires
+    cast-r
     mul-if1
     slice-read-if1
+    same-length
     returns
     settle-requires
     enter-stored-requires
-    mul-place
-    slice-write-place
+    put-place-requires
     slice-write-value
-    add-t16
-    same-length
+    add-t21
     same-length-2
     same-length-3
     same-length-4
     same-length-5
+    same-length-6
     returns-2)

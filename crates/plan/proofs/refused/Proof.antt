@@ -1,12 +1,14 @@
 -- `refused` meets its contract. Assumes nothing.
-use Rattle.plan.specs.Plans.{refused}
-use mathlib.Core.Path.{refl}
+use Rattle.plan.proofs.Answers.{refused-by}
+use borrow.Author.Needs.{needs}
 use Rattle.plan.proofs.refused.Statement.{statement}
 use Rattle.plan.proofs.refused.Tie as tie
 
+none-requires : tie.Need-none-requires
+none-requires c κs = search needs
+
 returns : tie.Need-returns
-unfolding refused
-returns c = refl
+returns c = refused-by (c .none .ensures)
 
 pub refused-spec : {M : Type 1} → statement M
-refused-spec = tie.close (tie.spec returns)
+refused-spec = tie.close (tie.spec none-requires returns)

@@ -16,26 +16,26 @@ returns c = let s = c .before .before .before in (refl, refl, put-full _ _ (s .a
 add-end : tie.Need-add-end
 add-end c = search needs
 
-slice-aggregate-copy : tie.Need-slice-aggregate-copy
-slice-aggregate-copy c = sym (length-take-le (c .before .before .before .before .args .count) (c .before .before .before .before .args .line .now) (c .before .before .before .before .pre .0))
+slice-aggregate-copy-bytes : tie.Need-slice-aggregate-copy-bytes
+slice-aggregate-copy-bytes c = sym (length-take-le (c .before .before .before .before .args .count) (c .before .before .before .before .args .line .now) (c .before .before .before .before .pre .0))
 
-sub-copy : tie.Need-sub-copy
-sub-copy c = search needs
+sub-copy-bytes : tie.Need-sub-copy-bytes
+sub-copy-bytes c = search needs
 
-part-copy-start : tie.Need-part-copy-start
-part-copy-start c = search needs
+part-copy-bytes-start : tie.Need-part-copy-bytes-start
+part-copy-bytes-start c = search needs
 
-part-copy-end : tie.Need-part-copy-end
-part-copy-end c = omega (arith, c .before .before .before .before .pre, c .before .if1 .left)
+part-copy-bytes-end : tie.Need-part-copy-bytes-end
+part-copy-bytes-end c = omega (arith, c .before .before .before .before .pre, c .before .if1 .left)
 
-copy-requires : tie.Need-copy-requires
-copy-requires c κs = let a = c .before .before .before .before .before .args in put-long (a .line .now) (a .count) (a .sheet .now) (a .to) (c .before .before .before .before .before .pre .0) (omega (arith, c .before .before .before .before .before .pre, c .before .before .if1 .left))
+copy-bytes-requires : tie.Need-copy-bytes-requires
+copy-bytes-requires c κs = let a = c .before .before .before .before .before .args in put-long (a .line .now) (a .count) (a .sheet .now) (a .to) (c .before .before .before .before .before .pre .0) (omega (arith, c .before .before .before .before .before .pre, c .before .before .if1 .left))
 
 same-length : tie.Need-same-length
 same-length c = search needs
 
 returns-2 : tie.Need-returns-2
-returns-2 c = let a = c .before .before .before .before .before .before .before .before .args in (refl, refl, put-fits (a .line .now) (a .count) (a .sheet .now) (a .to) _ (c .before .before .copy .last .1 .0) (c .before .before .before .before .before .before .before .before .pre .0) (omega (arith, c .before .before .before .before .before .before .before .before .pre, c .before .before .before .before .before .if1 .left)) (c .before .before .copy .ensures))
+returns-2 c = let a = c .before .before .before .before .before .before .before .before .args in (refl, refl, put-fits (a .line .now) (a .count) (a .sheet .now) (a .to) _ (c .before .before .copy-bytes .last .1 .0) (c .before .before .before .before .before .before .before .before .pre .0) (omega (arith, c .before .before .before .before .before .before .before .before .pre, c .before .before .before .before .before .if1 .left)) (c .before .before .copy-bytes .ensures))
 
 pub put-line-spec : {M : Type 1} → statement M
-put-line-spec = tie.close (tie.spec sub-if1 returns add-end slice-aggregate-copy sub-copy part-copy-start part-copy-end copy-requires same-length returns-2)
+put-line-spec = tie.close (tie.spec sub-if1 returns add-end slice-aggregate-copy-bytes sub-copy-bytes part-copy-bytes-start part-copy-bytes-end copy-bytes-requires same-length returns-2)

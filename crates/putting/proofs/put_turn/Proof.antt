@@ -25,7 +25,7 @@ enum-known-turn-3 : tie.Need-enum-known-turn-3
 enum-known-turn-3 c = search needs
 
 put-line-requires-3 : tie.Need-put-line-requires-3
-put-line-requires-3 c κs = (c .before .before .before .before .before .before .before .pre .0 .stopped _ (c .before .before .turn3 .given .1), c .before .before .before .before .before .before .before .pre .1)
+put-line-requires-3 c κs = (c .before .before .before .before .before .before .before .pre .0 .stopped _ _ (c .before .before .turn3 .given .1), c .before .before .before .before .before .before .before .pre .1)
 
 enum-told : tie.Need-enum-told
 enum-told c = search needs
@@ -49,7 +49,7 @@ same-length-3 : tie.Need-same-length-3
 same-length-3 c = search needs
 
 returns-3 : tie.Need-returns-3
-returns-3 c = let p = c .before .before .put-line3 .ensures in (p .0, stopped _ (c .before .before .before .before .before .turn3 .given .1) (p .1) (p .2))
+returns-3 c = let p = c .before .before .put-line3 .ensures in (p .0, stopped _ _ (c .before .before .before .before .before .turn3 .given .1) (p .1) (p .2))
 
 returns-4 : tie.Need-returns-4
 returns-4 c = (refl, waits (c .enum-told .given .1) refl refl refl refl)

@@ -17,7 +17,7 @@ add-bytes : tie.Need-add-bytes
 add-bytes c = let p = c .before .before .before .before .before .pre in omega (arith, places-most _ (p .0 .good (p .2)))
 
 mul-rows : tie.Need-mul-rows
-mul-rows c = let p = c .before .before .before .before .before .before .pre in omega (arith, good-bounds _ (p .0 .good (p .2)) .size)
+mul-rows c = let p = c .before .before .before .before .before .before .pre in omega (arith, good-bounds _ (p .0 .good (p .2)))
 
 slice-relend-prefix-recover-whole : tie.Need-slice-relend-prefix-recover-whole
 slice-relend-prefix-recover-whole c = let p = c .before .before .before .before .before .before .pre in places-fit _ (p .0 .good (p .2)) (c .before .before .before .before .before .before .args .block .now) (p .0 .block-long)
@@ -32,13 +32,13 @@ slice-aggregate-recover-whole-2 : tie.Need-slice-aggregate-recover-whole-2
 slice-aggregate-recover-whole-2 c = let p = c .before .before .before .before .before .before .before .before .pre in front-long _ (c .before .before .before .before .before .before .before .before .args .marks .now) (bytes-fit _ (p .0 .good (p .2)) (c .before .before .before .before .before .before .before .before .args .marks .now) (p .0 .marks-long))
 
 array-borrow-prefix-witness : tie.Need-array-borrow-prefix-witness
-array-borrow-prefix-witness c = let p = c .before .before .before .before .before .before .before .before .before .pre in omega (arith, good-bounds _ (p .0 .good (p .2)) .size)
+array-borrow-prefix-witness c = let p = c .before .before .before .before .before .before .before .before .before .pre in omega (arith, good-bounds _ (p .0 .good (p .2)))
 
 slice-aggregate-recover-whole-3 : tie.Need-slice-aggregate-recover-whole-3
-slice-aggregate-recover-whole-3 c = let p = c .before .before .before .before .before .before .before .before .before .before .pre in zeros-long _ 4096 (omega (arith, good-bounds _ (p .0 .good (p .2)) .size))
+slice-aggregate-recover-whole-3 c = let p = c .before .before .before .before .before .before .before .before .before .before .pre in zeros-long _ 4096 (omega (arith, good-bounds _ (p .0 .good (p .2))))
 
 recover-whole-requires : tie.Need-recover-whole-requires
-recover-whole-requires c κs = let p = c .before .before .before .before .before .before .before .before .before .before .pre in (lent-whole (p .0) (p .2), p .1, sym (zeros-long _ 4096 (omega (arith, good-bounds _ (p .0 .good (p .2)) .size))))
+recover-whole-requires c κs = let p = c .before .before .before .before .before .before .before .before .before .before .pre in (lent-whole (p .0) (p .2), p .1, sym (zeros-long _ 4096 (omega (arith, good-bounds _ (p .0 .good (p .2))))))
 
 same-length : tie.Need-same-length
 same-length c = search needs

@@ -2,8 +2,7 @@
 use borrow.Author.Needs.{needs}
 use Rattle.recovery.proofs.recover.Statement.{statement}
 use Rattle.recovery.proofs.recover.Tie as tie
-use mathlib.Core.Path.{_≡_, sym, _∙_}
-use lib.ListN.{length}
+use mathlib.Core.Path.{sym, _∙_}
 use Rattle.promises.specs.Promises.{recoverLent}
 use Rattle.promises.specs.Building.{recovers-refused}
 use Rattle.deciding.specs.Attempts.{call-given, call-decided}
@@ -22,7 +21,7 @@ slice-aggregate-decide c = search needs
 
 decide-requires : tie.Need-decide-requires
 unfolding recoverLent
-decide-requires c κs = let l : length (c .before .before .before .before .before .before .before .before .before .before .args .plan .shifts) ≡ 32 = search needs in call-given _ _ _ _ l (sym (c .before .before .before .before .before .before .check-call .ensures) ∙ c .before .before .before .before .enum-told .given .1)
+decide-requires c κs = call-given _ _ _ _ (sym (c .before .before .before .before .before .before .check-call .ensures) ∙ c .before .before .before .before .enum-told .given .1)
 
 returns : tie.Need-returns
 unfolding recoverLent

@@ -21,29 +21,29 @@ full-requires c κs = c .before .before .before .pre .of .long
 mul-from : tie.Need-mul-from Inv-loop μ-loop
 mul-from c = let r = full-room (c .before .before .before .before .pre) (c .full .ensures) in omega arith
 
-sub-copy : tie.Need-sub-copy Inv-loop μ-loop
-sub-copy c = omega arith
+sub-copy-bytes : tie.Need-sub-copy-bytes Inv-loop μ-loop
+sub-copy-bytes c = omega arith
 
-part-copy-start : tie.Need-part-copy-start Inv-loop μ-loop
-part-copy-start c = omega arith
+part-copy-bytes-start : tie.Need-part-copy-bytes-start Inv-loop μ-loop
+part-copy-bytes-start c = omega arith
 
-part-copy-end : tie.Need-part-copy-end Inv-loop μ-loop
-part-copy-end c = let r = full-room (c .before .before .before .before .pre) (c .full .ensures) in omega arith
+part-copy-bytes-end : tie.Need-part-copy-bytes-end Inv-loop μ-loop
+part-copy-bytes-end c = let r = full-room (c .before .before .before .before .pre) (c .full .ensures) in omega arith
 
-sub-copy-2 : tie.Need-sub-copy-2 Inv-loop μ-loop
-sub-copy-2 c = omega arith
+sub-copy-bytes-2 : tie.Need-sub-copy-bytes-2 Inv-loop μ-loop
+sub-copy-bytes-2 c = omega arith
 
-part-copy-start-2 : tie.Need-part-copy-start-2 Inv-loop μ-loop
-part-copy-start-2 c = omega arith
+part-copy-bytes-start-2 : tie.Need-part-copy-bytes-start-2 Inv-loop μ-loop
+part-copy-bytes-start-2 c = omega arith
 
-part-copy-end-2 : tie.Need-part-copy-end-2 Inv-loop μ-loop
-part-copy-end-2 c = let r = full-room (c .before .before .before .before .before .pre) (c .before .full .ensures) in omega arith
+part-copy-bytes-end-2 : tie.Need-part-copy-bytes-end-2 Inv-loop μ-loop
+part-copy-bytes-end-2 c = let r = full-room (c .before .before .before .before .before .pre) (c .before .full .ensures) in omega arith
 
-copy-requires : tie.Need-copy-requires Inv-loop μ-loop
-copy-requires c κs = let r = full-room (c .before .before .before .before .before .before .pre) (c .before .before .full .ensures) in simp (length-take, length-drop) (omega arith)
+copy-bytes-requires : tie.Need-copy-bytes-requires Inv-loop μ-loop
+copy-bytes-requires c κs = let r = full-room (c .before .before .before .before .before .before .pre) (c .before .before .full .ensures) in simp (length-take, length-drop) (omega arith)
 
 loop-holds : tie.Need-loop-holds Inv-loop μ-loop
-loop-holds c = filling-full (c .before .before .before .before .before .before .before .before .before .pre) (c .before .before .before .before .before .full .ensures) refl (c .before .before .copy .ensures) refl
+loop-holds c = filling-full (c .before .before .before .before .before .before .before .before .before .pre) (c .before .before .before .before .before .full .ensures) refl (c .before .before .copy-bytes .ensures) refl
 
 mul-wide : tie.Need-mul-wide Inv-loop μ-loop
 mul-wide c = omega (arith, c .before .loop .inv .0 .of .long, c .before .before .before .before .before .before .before .before .before .before .before .good .1 .1 .0 .1)
@@ -70,38 +70,38 @@ add-next c = let r = room c in omega arith
 add-stop : tie.Need-add-stop Inv-loop μ-loop
 add-stop c = let r = room c in omega arith
 
-sub-copy-3 : tie.Need-sub-copy-3 Inv-loop μ-loop
-sub-copy-3 c = omega arith
+sub-copy-bytes-3 : tie.Need-sub-copy-bytes-3 Inv-loop μ-loop
+sub-copy-bytes-3 c = omega arith
 
-part-copy-start-3 : tie.Need-part-copy-start-3 Inv-loop μ-loop
-part-copy-start-3 c = omega arith
+part-copy-bytes-start-3 : tie.Need-part-copy-bytes-start-3 Inv-loop μ-loop
+part-copy-bytes-start-3 c = omega arith
 
-part-copy-end-3 : tie.Need-part-copy-end-3 Inv-loop μ-loop
-part-copy-end-3 c = let r = room c in omega arith
+part-copy-bytes-end-3 : tie.Need-part-copy-bytes-end-3 Inv-loop μ-loop
+part-copy-bytes-end-3 c = let r = room c in omega arith
 
-sub-copy-4 : tie.Need-sub-copy-4 Inv-loop μ-loop
-sub-copy-4 c = omega arith
+sub-copy-bytes-4 : tie.Need-sub-copy-bytes-4 Inv-loop μ-loop
+sub-copy-bytes-4 c = omega arith
 
-part-copy-start-4 : tie.Need-part-copy-start-4 Inv-loop μ-loop
-part-copy-start-4 c = omega arith
+part-copy-bytes-start-4 : tie.Need-part-copy-bytes-start-4 Inv-loop μ-loop
+part-copy-bytes-start-4 c = omega arith
 
-part-copy-end-4 : tie.Need-part-copy-end-4 Inv-loop μ-loop
-part-copy-end-4 c = let r = room (c .before) in omega arith
+part-copy-bytes-end-4 : tie.Need-part-copy-bytes-end-4 Inv-loop μ-loop
+part-copy-bytes-end-4 c = let r = room (c .before) in omega arith
 
-copy-requires-2 : tie.Need-copy-requires-2 Inv-loop μ-loop
-copy-requires-2 c κs = let r = room (c .before .before) in simp (length-take, length-drop) (omega arith)
+copy-bytes-requires-2 : tie.Need-copy-bytes-requires-2 Inv-loop μ-loop
+copy-bytes-requires-2 c κs = let r = room (c .before .before) in simp (length-take, length-drop) (omega arith)
 
-sub-clear : tie.Need-sub-clear Inv-loop μ-loop
-sub-clear c = let r = room (c .before .before .before .before .before) in omega arith
+sub-clear-bytes : tie.Need-sub-clear-bytes Inv-loop μ-loop
+sub-clear-bytes c = let r = room (c .before .before .before .before .before) in omega arith
 
-part-clear-start : tie.Need-part-clear-start Inv-loop μ-loop
-part-clear-start c = let r = room (c .before .before .before .before .before) in omega arith
+part-clear-bytes-start : tie.Need-part-clear-bytes-start Inv-loop μ-loop
+part-clear-bytes-start c = let r = room (c .before .before .before .before .before) in omega arith
 
-part-clear-end : tie.Need-part-clear-end Inv-loop μ-loop
-part-clear-end c = let r = room (c .before .before .before .before .before) in omega (arith, c .before .block2 .given .1)
+part-clear-bytes-end : tie.Need-part-clear-bytes-end Inv-loop μ-loop
+part-clear-bytes-end c = let r = room (c .before .before .before .before .before) in omega (arith, c .before .block2 .given .1)
 
-clear-requires : tie.Need-clear-requires Inv-loop μ-loop
-clear-requires c κs = search needs
+clear-bytes-requires : tie.Need-clear-bytes-requires Inv-loop μ-loop
+clear-bytes-requires c κs = search needs
 
 add-j : tie.Need-add-j Inv-loop μ-loop
 add-j c = search needs
@@ -112,7 +112,7 @@ loop-less c = search needs
 loop-again : tie.Need-loop-again Inv-loop μ-loop
 loop-again c =
     let run = c .before .before .before .before .before .before .before .before .before .wide .ensures in
-    (c .before .before .before .before .before .before .before .before .before .before .before .before .loop .inv .0, filling-more (c .before .before .before .before .before .before .before .before .before .before .before .before .loop .inv .0) (c .before .before .before .before .before .before .before .before .before .before .before .before .loop .inv .1) (c .before .before .before .before .before .before .before .before .before .before .before .loop-test .taken) (ap (λ (x : ℕ). c .before .before .before .before .before .before .before .before .before .before .before .before .loop .from + x) run) (ap (λ (x : ℕ). c .before .before .before .before .before .before .before .before .before .before .before .before .loop .done + x) run) refl (c .before .before .before .before .before .before .copy2 .ensures) refl (c .before .before .before .clear-arg .given .2) (c .before .before .clear .ensures) refl)
+    (c .before .before .before .before .before .before .before .before .before .before .before .before .loop .inv .0, filling-more (c .before .before .before .before .before .before .before .before .before .before .before .before .loop .inv .0) (c .before .before .before .before .before .before .before .before .before .before .before .before .loop .inv .1) (c .before .before .before .before .before .before .before .before .before .before .before .loop-test .taken) (ap (λ (x : ℕ). c .before .before .before .before .before .before .before .before .before .before .before .before .loop .from + x) run) (ap (λ (x : ℕ). c .before .before .before .before .before .before .before .before .before .before .before .before .loop .done + x) run) refl (c .before .before .before .before .before .before .copy-bytes2 .ensures) refl (c .before .before .before .clear-bytes-arg .given .2) (c .before .before .clear-bytes .ensures) refl)
 
 same-length : tie.Need-same-length Inv-loop μ-loop
 same-length c = filling-long (c .before .loop .inv .0) (c .before .loop .inv .1) ∙ c .before .loop .inv .0 .block-long ∙ sym (c .before .before .before .before .before .before .before .before .before .before .before .pre .block-long)
@@ -128,13 +128,13 @@ spread-spec =
     μ-loop
     full-requires
     mul-from
-    sub-copy
-    part-copy-start
-    part-copy-end
-    sub-copy-2
-    part-copy-start-2
-    part-copy-end-2
-    copy-requires
+    sub-copy-bytes
+    part-copy-bytes-start
+    part-copy-bytes-end
+    sub-copy-bytes-2
+    part-copy-bytes-start-2
+    part-copy-bytes-end-2
+    copy-bytes-requires
     loop-holds
     mul-wide
     shared-slice-read-wide
@@ -142,17 +142,17 @@ spread-spec =
     add-end
     add-next
     add-stop
-    sub-copy-3
-    part-copy-start-3
-    part-copy-end-3
-    sub-copy-4
-    part-copy-start-4
-    part-copy-end-4
-    copy-requires-2
-    sub-clear
-    part-clear-start
-    part-clear-end
-    clear-requires
+    sub-copy-bytes-3
+    part-copy-bytes-start-3
+    part-copy-bytes-end-3
+    sub-copy-bytes-4
+    part-copy-bytes-start-4
+    part-copy-bytes-end-4
+    copy-bytes-requires-2
+    sub-clear-bytes
+    part-clear-bytes-start
+    part-clear-bytes-end
+    clear-bytes-requires
     add-j
     loop-less
     loop-again

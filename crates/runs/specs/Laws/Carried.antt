@@ -6,18 +6,17 @@ use mathlib.Core.List.{List·Memᴰ·head as first, List·Memᴰ·tail as later}
 use Prim.Native.Nat.{ℕ}
 use native.Mathlib.Omega.{arith}
 use lib.ListN.{length, getD}
+use Rattle.refusals.specs.declared.Check.the-variants.{Pass}
 use Rattle.math.specs.Members.{_∈_}
 use Rattle.plan.specs.Layout.{Layout, Valid, layout, messageCount}
-use Rattle.plan.specs.Plans.{layoutOf, verdictOf}
+use Rattle.plan.specs.Plans.{layoutOf, planCheck}
 use Rattle.plan.specs.PlanLaws.{good-bounds, good-valid}
 use Rattle.plan.specs.declared.Plan.{Plan}
-use Rattle.plan.specs.declared.Verdict.the-variants.{Good}
+use Rattle.plan.specs.GoodPlan.{GoodPlan, plan-valid}
 use Rattle.code.specs.Codewords.{Codeword, Agrees}
 use Rattle.code.specs.Messages.{Carries}
 use Rattle.code.specs.Laws.Basics.{places-∈}
 use Rattle.code.specs.Laws.ParityCount.{parities, messages, parity-lists, message-lists}
-use Rattle.runs.specs.Sized.{Sized}
-use Rattle.runs.specs.Laws.Computing.{sized-valid}
 use Rattle.runs.specs.Laws.Fronts.{count-messages}
 
 map-same : (f g : ℕ → ℕ) (l : List ℕ) → ((c : ℕ) → c ∈ l → f c ≡ g c) → map f l ≡ map g l
@@ -37,10 +36,10 @@ module _ {L : Layout} (ok : Valid L) where
       h .unmarked c (places-∈ L (q .inside) .0) (λ p. parity-lists L ok .exact c .0 p .lowest-of-none (q .lowest-of-some)))
       ∙ e)
 
-pub layout-count : (n t : ℕ) (p : List ℕ) → Sized n t p → length (messages (layout n t p)) ≡ messageCount (layout n t p)
+pub layout-count : (n t : ℕ) (p : List ℕ) → GoodPlan n t p → length (messages (layout n t p)) ≡ messageCount (layout n t p)
 unfolding layout
-layout-count n t p s = count-messages (layout n t p) (sized-valid n t p s) refl (omega (arith, s .n-min))
+layout-count n t p s = count-messages (layout n t p) (plan-valid s) refl (omega (arith, s .n-min))
 
-pub plan-count : (p : Plan) → verdictOf p ≡ Good → length (messages (layoutOf p)) ≡ messageCount (layoutOf p)
+pub plan-count : (p : Plan) → planCheck p ≡ Pass → length (messages (layoutOf p)) ≡ messageCount (layoutOf p)
 unfolding layoutOf layout
-plan-count p h = count-messages (layoutOf p) (good-valid p h) refl (omega (arith, good-bounds p h .size .n-least))
+plan-count p h = count-messages (layoutOf p) (good-valid p h) refl (omega (arith, good-bounds p h .n-min))

@@ -1,4 +1,4 @@
--- The runs along the sections 0 .. n - 1, from the last one down. Main results: sized-valid, run-le, and Known, the invariant of the loop that computes them.
+-- The runs along the sections 0 .. n - 1, from the last one down. Main results: run-le, and Known, the invariant of the loop that computes them.
 use mathlib.Core.Path.{_≡_, refl, sym, _∙_, ap, ap₂}
 use mathlib.Core.Logic.{by-cases}
 use mathlib.Core.List.{List, _∷_}
@@ -6,26 +6,17 @@ use Prim.Native.Nat.{ℕ, zero, suc, _+_, _-_, _≤_, _<_}
 use native.Mathlib.Nat.{le-of-dvd, pos-of-dvd-of-pos}
 use native.Mathlib.Decide.{ℕ-discrete, decLt}
 use native.Mathlib.Omega.{arith}
-use lib.ListN.{length, getD, set, replicate, getD-replicate, List·getD-eq-default, length-replicate, length-set}
+use lib.ListN.{length, getD, set, replicate, length-replicate, length-set}
 use lib.Seq.{getD-set-same, getD-set-other}
+use Rattle.slices.specs.Zeros.{zeros-at}
 use Rattle.math.specs.Gcd.{gcd, gap}
 use Rattle.math.specs.GcdLaws.{gcd-le}
 use Rattle.math.specs.Members.{from, upTo}
-use Rattle.math.specs.MembersLaws.{upTo-∈, rising-upTo}
 use Rattle.plan.specs.Layout.{Layout, Valid, layout}
+use Rattle.plan.specs.GoodPlan.{GoodPlan, plan-valid}
 use Rattle.code.specs.Laws.Forest.{lastOf, divisorFrom, run, runIn, runOf}
 use Rattle.code.specs.Laws.ClosedForm.{lastOf-tail, lastOf-one, run-last, run-more, runIn-head, runIn-tail, divisor-from-base, divisor-from-le, divisor-from-step, divisor-from-dvd, divisor-from-last}
-use Rattle.runs.specs.Sized.{Sized}
 use Rattle.runs.specs.Runs.{RunsOf}
-
-pub sized-valid : (n t : ℕ) (p : List ℕ) → Sized n t p → Valid (layout n t p)
-unfolding layout
-sized-valid n t p h = record {
-  positive = h .t-min;
-  rising = rising-upTo n;
-  inside = λ j m. upTo-∈ n m;
-  below = λ j m. h .below j (upTo-∈ n m);
-}
 
 -- the list from a on, taken apart
 from-head : (a : ℕ) {k m : ℕ} → k ≡ suc m → from a k ≡ a ∷ from (suc a) m
@@ -131,24 +122,19 @@ pub record Known (n t : ℕ) (p : List ℕ) (j g : ℕ) (r : List ℕ) : Type 0 
   pub divisor : g ≡ divisorAt (layout n t p) j
   pub exact : (i : ℕ) → j ≤ i → getD r i 0 ≡ runOf (layout n t p) i
 
-pub zeros : (k i : ℕ) → _≡_ {A = ℕ} (getD (replicate k 0) i 0) 0
-zeros k i =
-    by-cases (decLt i k) (λ h. getD-replicate k i 0 0 h)
-    (λ n. List·getD-eq-default (replicate k 0) 0 {n = i} (rw (length-replicate {A = ℕ} k 0) (omega arith)))
-
-module _ (n t : ℕ) (p : List ℕ) (s : Sized n t p) where
+module _ (n t : ℕ) (p : List ℕ) (s : GoodPlan n t p) where
   pub known-start : {j : ℕ} → j ≡ n - 1 → Known n t p j t (replicate 32 0)
   unfolding layout
   known-start {j} e =
       let h = s .n-min in
       let f : suc j ≡ n = omega arith in
       let L = layout n t p in
-      let ok = sized-valid n t p s in
+      let ok = plan-valid s in
       record {
         low = omega arith;
         long = length-replicate {A = ℕ} 32 0;
         divisor = sym (divisor-at-last L ok refl f);
-        exact = λ i l. zeros 32 i ∙ sym (by-cases (ℕ-discrete (suc i) n) (λ q. run-last-zero L ok refl q) (λ q. run-absent L ok refl {j = i} (omega arith)));
+        exact = λ i l. zeros-at 32 i ∙ sym (by-cases (ℕ-discrete (suc i) n) (λ q. run-last-zero L ok refl q) (λ q. run-absent L ok refl {j = i} (omega arith)));
       }
 
   pub known-more : {j g h v : ℕ} {r r' : List ℕ} → Known n t p j g r → 0 < j → h ≡ gcd (gap (getD p (j - 1) 0) (getD p (n - 1) 0)) g
@@ -156,7 +142,7 @@ module _ (n t : ℕ) (p : List ℕ) (s : Sized n t p) where
   unfolding layout
   known-more {j} {g} {h} {v} {r} k pos hh hv hr =
       let L = layout n t p in
-      let ok = sized-valid n t p s in
+      let ok = plan-valid s in
       let e : suc (j - 1) ≡ j = omega arith in
       let l : suc (j - 1) < n = omega (arith, k .low) in
       let f : suc (n - 1) ≡ n = omega arith in
@@ -176,7 +162,7 @@ module _ (n t : ℕ) (p : List ℕ) (s : Sized n t p) where
   unfolding layout
   known-fits {j} x k =
       let L = layout n t p in
-      let ok = sized-valid n t p s in
+      let ok = plan-valid s in
       (rw (k .divisor) (divisor-at-le L ok refl j), gcd-le x (rw (k .divisor) (divisor-at-pos L ok refl j)))
 
   pub known-end : {j g : ℕ} {r : List ℕ} → Known n t p j g r → j ≡ 0 → RunsOf n t (layout n t p) r
@@ -184,7 +170,7 @@ module _ (n t : ℕ) (p : List ℕ) (s : Sized n t p) where
   known-end k e = record {
     n-is = refl;
     t-is = refl;
-    valid = sized-valid n t p s;
+    valid = plan-valid s;
     all = refl;
     some = omega (arith, k .low);
     small = s .places-max;

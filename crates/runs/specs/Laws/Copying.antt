@@ -1,5 +1,5 @@
 -- Copying runs: one turn of each loop, and what stands there at the end.
--- Main results: copied-more; fronts-full and filled-full (full sections at once); Gathering (gather's invariant) with its start, step and end; Filling (spread's) with the same.
+-- Main results: fronts-full and filled-full (full sections at once); Gathering (gather's invariant) with its start, step and end; Filling (spread's) with the same.
 use mathlib.Core.Path.{_≡_, refl, sym, _∙_, ap, ap₂}
 use mathlib.Core.Logic.{by-cases}
 use mathlib.Core.List.{List, _++_, map, append-assoc, append-nil}
@@ -8,31 +8,14 @@ use native.Mathlib.Nat.{suc-mul, zero-mul, sub-zero, mul-le-mul-right, div-lt-if
 use native.Mathlib.Numerals.{add-one}
 use native.Mathlib.Decide.{ℕ-discrete}
 use native.Mathlib.Omega.{arith}
-use borrow.Author.Fill.{fill-more}
-use lib.ListN.{length, getD, set, take, drop, replicate, length-append, length-drop, length-replicate, drop-of-length-le, List·getD-append}
-use lib.Seq.{drop-cons, take-suc, set-at, append-snoc, take-at, drop-at, take-append-le, drop-append-le, getD-append-add, take-add, take-all, length-take-le}
+use lib.ListN.{length, getD, take, drop, replicate, length-append, length-drop, length-replicate, drop-of-length-le, List·getD-append}
+use lib.Seq.{take-at, drop-at, take-append-le, drop-append-le, getD-append-add, take-add, take-all, length-take-le}
+use Rattle.slices.specs.Zeros.{zeros-at}
+use Rattle.bounds.specs.Bounds.{maxPlaces}
 use Rattle.plan.specs.Layout.{Layout, messageCount}
 use Rattle.code.specs.Laws.ParityCount.{messages}
 use Rattle.runs.specs.Runs.{RunsOf, Lent, Full, Spread}
-use Rattle.runs.specs.Laws.Computing.{zeros}
 use Rattle.runs.specs.Laws.Fronts.{total, fronts, filled, part-write, total-more, total-le, total-within, parts-place, runs-short, runs-positive, parity-offset, parity-section, total-count, fronts-messages}
-
--- one symbol of a copy
-pub copied-more : (s d : List ℕ) {l : List ℕ} (i v : ℕ) → l ≡ take i s ++ drop i d → v ≡ getD s i 0 → i < length s → i < length d
-    → set l i v ≡ take (i + 1) s ++ drop (i + 1) d
-copied-more s d i v e g h k =
-    let len : length (take i s) ≡ i = length-take-le i s (omega arith) in
-    rw (e, g, drop-cons d i 0 k, set-at (take i s) (getD d i 0) (drop (suc i) d) (getD s i 0) i len, add-one i, take-suc s i 0 h)
-    (sym (append-snoc (take i s) (getD s i 0) (drop (suc i) d)))
-
-pub copied-done : (s d : List ℕ) {l : List ℕ} (i : ℕ) → l ≡ take i s ++ drop i d → length s ≤ i → length d ≤ i → l ≡ s
-copied-done s d i e h k = e ∙ ap₂ _++_ (take-all i s h) (drop-of-length-le d k) ∙ append-nil s
-
-pub cleared-more : (d : List ℕ) {l : List ℕ} (i : ℕ) → l ≡ replicate i 0 ++ drop i d → i < length d → set l i 0 ≡ replicate (i + 1) 0 ++ drop (i + 1) d
-cleared-more d i e h = ap (λ l. set l i 0) e ∙ fill-more i 0 d h
-
-pub cleared-done : (d : List ℕ) {l : List ℕ} (i : ℕ) → l ≡ replicate i 0 ++ drop i d → i ≡ length d → l ≡ replicate (length d) 0
-cleared-done d i e h = e ∙ ap₂ _++_ (ap (λ k. replicate k 0) h) (drop-of-length-le d {i = i} (omega arith)) ∙ append-nil (replicate (length d) 0)
 
 -- a part that starts at a and ends at a + k
 length-part : (l : List ℕ) (a k : ℕ) → a + k ≤ length l → length (take k (drop a l)) ≡ k
@@ -84,7 +67,7 @@ front-copied x l₀ l e lx h hl =
 
 -- the full sections lie within
 pub full-room : {n t : ℕ} {runs block message : List ℕ} {k : ℕ} → Lent n t runs block message → Full n t runs k
-    → (k * t ≤ length block) × (k * t ≤ length message) × (n * t ≤ 32768)
+    → (k * t ≤ length block) × (k * t ≤ length message) × (n * t ≤ maxPlaces)
 full-room {n} {t} {runs} {k = k} h F = (
   omega (arith, h .block-long, mul-le-mul-right t (F .most)),
   omega (arith, h .message-long, total-count (h .of), total-le runs n (F .most), total-full t runs k (F .whole)),
@@ -222,7 +205,7 @@ module _ {n t : ℕ} {L : Layout} {runs : List ℕ} (h : RunsOf n t L runs) (mes
       (λ q. let o' : getD runs j 0 ≤ c % t = rw (← q) o in
       let a : c ≡ length f + (length x + (c % t - getD runs j 0)) = omega (arith, parts-place t c q, length-run {j = j} k) in
       ap (λ y. getD (f ++ (x ++ z)) y 0) a ∙ getD-append-add f (x ++ z) (length x + (c % t - getD runs j 0)) 0
-      ∙ getD-append-add x z (c % t - getD runs j 0) 0 ∙ zeros (t - getD runs j 0) (c % t - getD runs j 0))
+      ∙ getD-append-add x z (c % t - getD runs j 0) 0 ∙ zeros-at (t - getD runs j 0) (c % t - getD runs j 0))
       (λ q. let o' : c / t < j = omega arith in
       List·getD-append f (x ++ z) 0 c (omega (arith, div-lt-iff-lt-mul {x = c} {y = j} (runs-positive h) .0 o')) ∙ filled-blank j c (omega arith) o' o)
 

@@ -1,18 +1,14 @@
--- An array of 4096 entries holds the sums.
+-- A local array holds the sums.
 use borrow.Author.Needs.{needs}
+use Prim.Native.Nat.{_*_}
 use native.Mathlib.Omega.{arith}
-use Rattle.tables.specs.Zeros.{zeros}
+use Rattle.bounds.specs.Bounds.{maxT}
+use Rattle.tables.specs.Zeros.{zeros-of}
 use Rattle.sealing.proofs.clean_large.Statement.{statement}
 use Rattle.sealing.proofs.clean_large.Tie as tie
 
-slice-aggregate-rows-clean : tie.Need-slice-aggregate-rows-clean
-slice-aggregate-rows-clean c = search needs
-
 rows-clean-requires : tie.Need-rows-clean-requires
-rows-clean-requires c κs = ((c .before .before .before .pre .0 .0, c .before .before .before .pre .0 .1), zeros 4096 (omega (arith, c .before .before .before .pre .1)))
-
-returns : tie.Need-returns
-returns c = search needs
+rows-clean-requires c κs = zeros-of (2 * maxT) (c .before .before .before .pre) (omega arith)
 
 pub clean-large-spec : {M : Type 1} → statement M
-clean-large-spec = tie.close (tie.spec slice-aggregate-rows-clean rows-clean-requires returns)
+clean-large-spec = tie.close (tie.spec (λ c. search needs) rows-clean-requires (λ c. search needs))

@@ -23,7 +23,7 @@ slice-aggregate-seal-2 : tie.Need-slice-aggregate-seal-2
 slice-aggregate-seal-2 c = search needs
 
 seal-requires : tie.Need-seal-requires
-seal-requires c κs = let l : length (c .before .before .before .before .before .before .before .before .before .before .before .before .args .plan .shifts) ≡ 32 = search needs in let e = pass-long _ _ _ (sym (c .before .before .before .before .before .before .check .ensures .answer) ∙ c .before .before .before .enum-told .given .1) in (record { sized = pass-sized _ _ _ (sym (c .before .before .before .before .before .before .check .ensures .answer) ∙ c .before .before .before .enum-told .given .1) l; of = c .before .before .before .before .before .before .check .ensures .of (c .before .before .before .enum-told .given .1); block-long = e .0 }, e .1)
+seal-requires c κs = let e = pass-long _ _ _ (sym (c .before .before .before .before .before .before .check .ensures .answer) ∙ c .before .before .before .enum-told .given .1) in (record { sized = pass-sized _ _ _ (sym (c .before .before .before .before .before .before .check .ensures .answer) ∙ c .before .before .before .enum-told .given .1); of = c .before .before .before .before .before .before .check .ensures .of (c .before .before .before .enum-told .given .1); block-long = e .0 }, e .1)
 
 enum-known-x : tie.Need-enum-known-x
 enum-known-x c = search needs

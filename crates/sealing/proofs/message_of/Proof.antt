@@ -21,7 +21,7 @@ slice-aggregate-is-codeword : tie.Need-slice-aggregate-is-codeword
 slice-aggregate-is-codeword c = search needs
 
 is-codeword-requires : tie.Need-is-codeword-requires
-is-codeword-requires c κs = let l : length (c .before .before .before .before .before .before .before .before .before .before .args .plan .shifts) ≡ 32 = search needs in (pass-sized _ _ _ (sym (c .before .before .before .before .check .ensures .answer) ∙ c .before .enum-told .given .1) l, pass-long _ _ _ (sym (c .before .before .before .before .check .ensures .answer) ∙ c .before .enum-told .given .1) .0)
+is-codeword-requires c κs = (pass-sized _ _ _ (sym (c .before .before .before .before .check .ensures .answer) ∙ c .before .enum-told .given .1), pass-long _ _ _ (sym (c .before .before .before .before .check .ensures .answer) ∙ c .before .enum-told .given .1) .0)
 
 same-length : tie.Need-same-length
 same-length c = search needs

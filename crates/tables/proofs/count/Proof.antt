@@ -1,6 +1,6 @@
 -- `tables::count` meets its contract: clear, scan.
 use borrow.Author.Needs.{needs}
-use Rattle.tables.specs.Filling.{cleared}
+use Rattle.slices.specs.Copying.{cleared}
 use Rattle.tables.proofs.count.Statement.{statement}
 use Rattle.tables.proofs.count.Tie as tie
 

@@ -1,4 +1,4 @@
--- More may come, or the job is short.
+-- `cut_off` meets its contract. Assumes nothing.
 use mathlib.Core.Path.{refl}
 use borrow.Author.Tests.{not-true, not-false}
 use Rattle.turns.specs.TurnLaws.{same, on-cut-yet, on-short}
@@ -10,7 +10,7 @@ returns : tie.Need-returns
 returns c = λ v m b p. on-cut-yet p (not-true _ (c .if1 .taken)) refl (same _ _ _) refl
 
 stop-requires : tie.Need-stop-requires
-stop-requires c κs = c .before .before .before .pre
+stop-requires c κs = search needs
 
 same-length : tie.Need-same-length
 same-length c = search needs

@@ -1,4 +1,4 @@
--- The refusal of an unknown first byte.
+-- `unknown` meets its contract. Assumes nothing.
 use mathlib.Core.Path.{refl}
 use Rattle.turns.specs.TurnLaws.{on-unknown}
 use borrow.Author.Needs.{needs}
@@ -6,7 +6,7 @@ use Rattle.turns.proofs.unknown.Statement.{statement}
 use Rattle.turns.proofs.unknown.Tie as tie
 
 stop-requires : tie.Need-stop-requires
-stop-requires c κs = c .before .before .pre
+stop-requires c κs = search needs
 
 same-length : tie.Need-same-length
 same-length c = search needs

@@ -1,30 +1,23 @@
--- One shift is stored.
-use mathlib.Core.Path.{_≡_, refl, sym, _∙_}
-use native.Mathlib.Omega.{arith}
+-- `plans::set_shift` meets its contract. Assumes nothing.
 use mathlib.Core.List.{[]}
-use lib.ListN.{length}
-use Rattle.plan.specs.PlanLaws.{good-bounds}
-use Rattle.act.specs.StateLaws.{shift-inside}
+use mathlib.Core.Path.{sym, subst}
+use Rattle.plan.specs.declared.Plan.{Plan}
+use Rattle.act.specs.Acts.{stateOf, Acts}
+use Rattle.act.specs.StateLaws.{holding, shift-inside}
 use Rattle.act.specs.ActLaws.{shifted}
-use Rattle.state.specs.State.{withShift}
-use Rattle.act.specs.Acts.{stateOf}
+use Rattle.commands.specs.declared.Command.the-variants.{SetShift}
 use borrow.Author.Needs.{needs}
 use Rattle.act.proofs.plans.set_shift.Statement.{statement}
 use Rattle.act.proofs.plans.set_shift.Tie as tie
 
-mul-s : tie.Need-mul-s
-mul-s c = search needs
-
-array-write-s : tie.Need-array-write-s
-unfolding stateOf
-array-write-s c = let r = shift-inside _ _ _ (c .before .before .pre .0 [] []) in omega (arith, r .1, good-bounds _ (c .before .before .pre .1 (r .0)) .size)
+with-shift-requires : tie.Need-with-shift-requires
+with-shift-requires c κs = search needs
 
 returns : tie.Need-returns
-unfolding stateOf withShift
+unfolding stateOf
 returns c =
     let r = shift-inside _ _ _ (c .before .before .pre .0 [] []) in
-    let l : length (c .before .before .args .held .plan .shifts) ≡ 32 = search needs in
-    shifted _ _ _ (r .0) (r .1) (r .2) (c .before .before .pre .1 (r .0)) l
+    λ v m k. subst (λ (p : Plan). Acts (SetShift (c .before .before .args .j) (c .before .before .args .p)) (c .before .before .args .held) v m [] (holding p) v m) (sym (c .with-shift .ensures)) (shifted _ _ _ (r .0) (r .2) (c .before .before .pre .1 (r .0)) v m k)
 
 pub set-shift-spec : {M : Type 1} → statement M
-set-shift-spec = tie.close (tie.spec mul-s array-write-s returns)
+set-shift-spec = tie.close (tie.spec with-shift-requires returns)

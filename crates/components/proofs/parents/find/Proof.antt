@@ -1,70 +1,54 @@
 -- `parents::find` meets its contract. The invariant: row r is reached from x, and up is its parent. The measure is r. Assumes nothing.
-use native.Mathlib.Omega.{arith}
-use lib.ListN.{getD, length-set}
 use borrow.Author.Needs.{needs}
+use native.Mathlib.Omega.{arith}
 use Rattle.components.specs.Parents.{Seeks, seeks-own, seeks-more, seeks-found}
 use Rattle.components.proofs.parents.find.Statement.{statement}
 use Rattle.components.proofs.parents.find.Tie as tie
 
 abbrev Inv-loop : tie.InvT-loop
-Inv-loop parent₀ r₀ up₀ parent r up = Seeks parent₀ r₀ parent r up
+Inv-loop parent₀ r₀ up₀ parent r up = Seeks parent₀ (r₀ .0) parent (r .0) (up .0)
 
 abbrev μ-loop : tie.MeasureT-loop
-μ-loop parent₀ r₀ up₀ parent r up = r
+μ-loop parent₀ r₀ up₀ parent r up = r .0
 
-cast-r : tie.Need-cast-r Inv-loop μ-loop
-cast-r c = search needs
+cast-row-at : tie.Need-cast-row-at Inv-loop μ-loop
+cast-row-at c = search needs
 
-mul-up : tie.Need-mul-up Inv-loop μ-loop
-mul-up c = search needs
-
-slice-read-up : tie.Need-slice-read-up Inv-loop μ-loop
-slice-read-up c = search needs
-
-cast-up : tie.Need-cast-up Inv-loop μ-loop
-cast-up c = omega (arith, c .slice-known .given (c .before .before .args .x .0))
+row-at-requires : tie.Need-row-at-requires Inv-loop μ-loop
+row-at-requires c κs = search needs
 
 loop-holds : tie.Need-loop-holds Inv-loop μ-loop
-loop-holds c = seeks-own (c .before .before .pre .0) (search needs) (search needs)
+loop-holds c = seeks-own (c .before .before .before .before .pre .0) (c .before .before .before .before .pre .1) (c .row-at .ensures)
 
-mul-over : tie.Need-mul-over Inv-loop μ-loop
-mul-over c = omega arith
+cast-row-at-2 : tie.Need-cast-row-at-2 Inv-loop μ-loop
+cast-row-at-2 c = search needs
 
-slice-read-over : tie.Need-slice-read-over Inv-loop μ-loop
-slice-read-over c = omega arith
+row-at-requires-2 : tie.Need-row-at-requires-2 Inv-loop μ-loop
+row-at-requires-2 c κs = omega (arith, c .before .before .before .before .before .loop .inv .low, c .before .before .before .before .before .loop .inv .near, c .before .before .before .before .before .loop .inv .start, c .before .before .before .before .before .loop .inv .long)
 
-mul-parent : tie.Need-mul-parent Inv-loop μ-loop
-mul-parent c = omega arith
+cast-put-row : tie.Need-cast-put-row Inv-loop μ-loop
+cast-put-row c = search needs
 
-slice-write-parent : tie.Need-slice-write-parent Inv-loop μ-loop
-slice-write-parent c = omega arith
+put-row-requires : tie.Need-put-row-requires Inv-loop μ-loop
+put-row-requires c κs = omega (arith, c .before .before .before .before .before .before .before .before .loop .inv .near, c .before .before .before .before .before .before .before .before .loop .inv .start, c .before .before .before .before .before .before .before .before .loop .inv .long)
 
-cast-r-2 : tie.Need-cast-r-2 Inv-loop μ-loop
-cast-r-2 c = omega (arith, c .slice-known2 .given (c .before .before .loop .up))
+cast-row-at-3 : tie.Need-cast-row-at-3 Inv-loop μ-loop
+cast-row-at-3 c = search needs
 
-mul-up-2 : tie.Need-mul-up-2 Inv-loop μ-loop
-mul-up-2 c = omega arith
-
-slice-read-up-2 : tie.Need-slice-read-up-2 Inv-loop μ-loop
-slice-read-up-2 c = simp length-set (omega arith)
-
-cast-up-2 : tie.Need-cast-up-2 Inv-loop μ-loop
-cast-up-2 c = omega (arith, c .slice-known3 .given (getD (c .before .before .before .loop .parent) (c .before .before .before .loop .up) 0))
+row-at-requires-3 : tie.Need-row-at-requires-3 Inv-loop μ-loop
+row-at-requires-3 c κs = omega (arith, c .before .before .before .before .before .before .before .row-at2 .ensures, c .before .before .before .before .before .before .before .before .before .before .before .before .before .loop .inv .next-low, c .before .before .before .before .before .before .before .before .before .before .before .before .before .loop .inv .low, c .before .before .before .before .before .before .before .before .before .before .before .before .before .loop .inv .near, c .before .before .before .before .before .before .before .before .before .before .before .before .before .loop .inv .start, c .before .before .before .before .before .before .before .before .before .before .before .before .before .loop .inv .long, c .before .before .before .before .put-row .kept .0)
 
 loop-less : tie.Need-loop-less Inv-loop μ-loop
-loop-less c = omega arith
+loop-less c = omega (arith, c .before .before .before .before .before .before .before .before .row-at2 .ensures, c .before .before .before .before .before .before .before .before .before .before .before .before .before .before .loop .inv .next-low, c .before .before .before .before .before .before .before .before .before .before .before .if1 .taken)
 
 loop-again : tie.Need-loop-again Inv-loop μ-loop
-loop-again c = seeks-more (c .before .before .before .loop .inv)
-
-cast-t8 : tie.Need-cast-t8 Inv-loop μ-loop
-cast-t8 c = omega arith
+loop-again c = seeks-more (c .before .before .before .before .before .before .before .before .before .before .before .before .before .before .loop .inv) (c .before .before .before .before .before .before .before .before .row-at2 .ensures) (c .before .before .before .before .before .put-row .ensures) (c .row-at3 .ensures)
 
 same-length : tie.Need-same-length Inv-loop μ-loop
-same-length c = search needs
+same-length c = c .before .before .before .loop .inv .long
 
 returns : tie.Need-returns Inv-loop μ-loop
-returns c = seeks-found (c .before .loop .inv) (c .loop-test .left)
+returns c = seeks-found (c .before .before .before .loop .inv) (c .if1 .left)
 
 pub find-spec : {M : Type 1} → statement M
 find-spec =
@@ -72,21 +56,16 @@ find-spec =
     (tie.spec
     Inv-loop
     μ-loop
-    cast-r
-    mul-up
-    slice-read-up
-    cast-up
+    cast-row-at
+    row-at-requires
     loop-holds
-    mul-over
-    slice-read-over
-    mul-parent
-    slice-write-parent
-    cast-r-2
-    mul-up-2
-    slice-read-up-2
-    cast-up-2
+    cast-row-at-2
+    row-at-requires-2
+    cast-put-row
+    put-row-requires
+    cast-row-at-3
+    row-at-requires-3
     loop-less
     loop-again
-    cast-t8
     same-length
     returns)

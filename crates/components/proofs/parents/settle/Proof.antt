@@ -1,8 +1,8 @@
 -- `parents::settle` meets its contract. The invariant: the rows below r hang from their roots. The measure is what is left of the rows. Assumes nothing.
+use borrow.Author.Needs.{needs}
 use Prim.Native.Nat.{_-_}
 use native.Mathlib.Omega.{arith}
-use lib.ListN.{length, length-set}
-use borrow.Author.Needs.{needs}
+use lib.ListN.{length}
 use Rattle.components.specs.Parents.{Settled, settled-none, settled-more, settled-all}
 use Rattle.components.proofs.parents.settle.Statement.{statement}
 use Rattle.components.proofs.parents.settle.Tie as tie
@@ -14,37 +14,28 @@ abbrev μ-loop : tie.MeasureT-loop
 μ-loop parent₀ r₀ parent r = length parent - r
 
 loop-holds : tie.Need-loop-holds Inv-loop μ-loop
-loop-holds c = settled-none (c .pre)
+loop-holds c = settled-none (c .before .pre)
 
-mul-up : tie.Need-mul-up Inv-loop μ-loop
-mul-up c = omega arith
+row-at-requires : tie.Need-row-at-requires Inv-loop μ-loop
+row-at-requires c κs = c .before .loop-test .taken
 
-slice-read-up : tie.Need-slice-read-up Inv-loop μ-loop
-slice-read-up c = omega arith
+cast-row-at : tie.Need-cast-row-at Inv-loop μ-loop
+cast-row-at c = search needs
 
-cast-up : tie.Need-cast-up Inv-loop μ-loop
-cast-up c = omega (arith, c .slice-known .given (c .before .before .loop .r))
+row-at-requires-2 : tie.Need-row-at-requires-2 Inv-loop μ-loop
+row-at-requires-2 c κs = omega (arith, c .before .before .row-at .ensures, c .before .before .before .before .before .loop .inv .same .falls (c .before .before .before .before .before .loop .r) (c .before .before .before .before .loop-test .taken), c .before .before .before .before .loop-test .taken)
 
-mul-parent : tie.Need-mul-parent Inv-loop μ-loop
-mul-parent c = omega (arith, c .slice-known .given (c .before .before .loop .r))
-
-slice-read-parent : tie.Need-slice-read-parent Inv-loop μ-loop
-slice-read-parent c = omega (arith, c .before .before .before .loop .inv .same .falls (c .before .before .before .loop .r) (search needs))
-
-mul-parent-2 : tie.Need-mul-parent-2 Inv-loop μ-loop
-mul-parent-2 c = omega arith
-
-slice-write-parent : tie.Need-slice-write-parent Inv-loop μ-loop
-slice-write-parent c = omega arith
+put-row-requires : tie.Need-put-row-requires Inv-loop μ-loop
+put-row-requires c κs = c .before .before .before .before .before .before .loop-test .taken
 
 add-r : tie.Need-add-r Inv-loop μ-loop
-add-r c = omega arith
+add-r c = omega (arith, c .before .before .before .before .before .before .before .before .before .loop-test .taken, c .before .before .put-row .kept .0)
 
 loop-less : tie.Need-loop-less Inv-loop μ-loop
-loop-less c = simp length-set (omega arith)
+loop-less c = omega (arith, c .before .before .before .before .before .before .before .before .before .loop-test .taken, c .before .before .put-row .kept .0)
 
 loop-again : tie.Need-loop-again Inv-loop μ-loop
-loop-again c = settled-more (c .before .before .before .loop .inv) (omega arith)
+loop-again c = rw (c .before .before .put-row .ensures, c .before .before .before .before .row-at2 .ensures, c .before .before .before .before .before .before .before .row-at .ensures) (settled-more (c .before .before .before .before .before .before .before .before .before .before .loop .inv) (omega (arith, c .before .before .before .before .before .before .before .before .before .before .loop .inv .same .long, c .before .before .before .before .before .before .before .before .before .loop-test .taken)))
 
 same-length : tie.Need-same-length Inv-loop μ-loop
 same-length c = c .before .loop .inv .same .long
@@ -59,13 +50,10 @@ settle-spec =
     Inv-loop
     μ-loop
     loop-holds
-    mul-up
-    slice-read-up
-    cast-up
-    mul-parent
-    slice-read-parent
-    mul-parent-2
-    slice-write-parent
+    row-at-requires
+    cast-row-at
+    row-at-requires-2
+    put-row-requires
     add-r
     loop-less
     loop-again

@@ -1,6 +1,6 @@
 -- `parents::unite` meets its contract. The roots of the two rows decide, and the lower root stays one. Assumes nothing.
-use Rattle.components.specs.Parents.{unites-same, unites-first, unites-second}
 use borrow.Author.Needs.{needs}
+use Rattle.components.specs.Parents.{unites-same, unites-first, unites-second}
 use Rattle.components.proofs.parents.unite.Statement.{statement}
 use Rattle.components.proofs.parents.unite.Tie as tie
 
@@ -10,32 +10,26 @@ find-requires c κs = search needs
 find-requires-2 : tie.Need-find-requires-2
 find-requires-2 c κs = search needs
 
-cast-i : tie.Need-cast-i
-cast-i c = search needs
+cast-put-row : tie.Need-cast-put-row
+cast-put-row c = search needs
 
-mul-parent : tie.Need-mul-parent
-mul-parent c = search needs
-
-slice-write-parent : tie.Need-slice-write-parent
-slice-write-parent c = search needs
+put-row-requires : tie.Need-put-row-requires
+put-row-requires c κs = search needs
 
 returns : tie.Need-returns
-returns c = unites-second (c .before .before .before .before .before .before .before .before .before .before .find .ensures) (c .before .before .before .before .before .before .find2 .ensures) (search needs) (search needs)
+returns c = rw (c .before .before .put-row .ensures) (unites-second (c .before .before .before .before .before .before .before .before .before .before .before .before .before .before .find .ensures) (c .before .before .before .before .before .before .before .before .before .before .find2 .ensures) (search needs) (search needs))
 
 same-length : tie.Need-same-length
 same-length c = returns c .united .long
 
-cast-i-2 : tie.Need-cast-i-2
-cast-i-2 c = search needs
+cast-put-row-2 : tie.Need-cast-put-row-2
+cast-put-row-2 c = search needs
 
-mul-parent-2 : tie.Need-mul-parent-2
-mul-parent-2 c = search needs
-
-slice-write-parent-2 : tie.Need-slice-write-parent-2
-slice-write-parent-2 c = search needs
+put-row-requires-2 : tie.Need-put-row-requires-2
+put-row-requires-2 c κs = search needs
 
 returns-2 : tie.Need-returns-2
-returns-2 c = unites-first (c .before .before .before .before .before .before .before .before .before .before .before .before .before .find .ensures) (c .before .before .before .before .before .before .before .before .before .find2 .ensures) (search needs) (search needs)
+returns-2 c = rw (c .before .before .put-row2 .ensures) (unites-first (c .before .before .before .before .before .before .before .before .before .before .before .before .before .before .before .before .before .find .ensures) (c .before .before .before .before .before .before .before .before .before .before .before .before .before .find2 .ensures) (search needs) (search needs))
 
 same-length-2 : tie.Need-same-length-2
 same-length-2 c = returns-2 c .united .long
@@ -52,14 +46,12 @@ unite-spec =
     (tie.spec
     find-requires
     find-requires-2
-    cast-i
-    mul-parent
-    slice-write-parent
+    cast-put-row
+    put-row-requires
     same-length
     returns
-    cast-i-2
-    mul-parent-2
-    slice-write-parent-2
+    cast-put-row-2
+    put-row-requires-2
     same-length-2
     returns-2
     same-length-3

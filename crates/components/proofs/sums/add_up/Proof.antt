@@ -1,9 +1,9 @@
 -- `sums::add_up` meets its contract. The invariant: the rows before r are added up. The measure is what is left of the rows. Assumes nothing.
-use Rattle.math.specs.Xor.{_⊕_}
+use borrow.Author.Needs.{needs}
 use mathlib.Core.Path.{sym, _∙_}
 use Prim.Native.Nat.{_-_, _≤_}
 use native.Mathlib.Omega.{arith}
-use lib.ListN.{length}
+use Rattle.math.specs.Xor.{_⊕_}
 use Rattle.components.specs.Lists.{Adds, adds-more, adds-all}
 use Rattle.components.proofs.sums.add_up.Statement.{statement}
 use Rattle.components.proofs.sums.add_up.Tie as tie
@@ -15,38 +15,35 @@ abbrev μ-loop : tie.MeasureT-loop
 μ-loop rows parent sum total₀ r₀ total r = rows - r
 
 loop-holds : tie.Need-loop-holds Inv-loop μ-loop
-loop-holds c = (c .pre .0, omega arith)
+loop-holds c = (c .before .before .before .pre .0, omega arith)
 
-mul-q : tie.Need-mul-q Inv-loop μ-loop
-mul-q c = omega arith
-
-shared-slice-read-q : tie.Need-shared-slice-read-q Inv-loop μ-loop
-shared-slice-read-q c = omega arith
+row-at-requires : tie.Need-row-at-requires Inv-loop μ-loop
+row-at-requires c κs = omega (arith, c .before .before .before .before .before .pre .1, c .loop-test .taken)
 
 cast-q : tie.Need-cast-q Inv-loop μ-loop
-cast-q c = omega (arith, c .shared-slice-known .given (c .before .before .loop .r))
+cast-q c = search needs
 
 slice-read-total : tie.Need-slice-read-total Inv-loop μ-loop
-slice-read-total c = omega (arith, c .before .before .before .before .pre .3 (c .before .before .before .loop .r) (c .before .before .loop-test .taken), c .before .before .before .loop .inv .0 .long)
+slice-read-total c = omega (arith, c .before .before .row-at .ensures, c .before .before .before .before .before .before .before .before .pre .3 (c .before .before .before .before .loop .r) (c .before .before .before .loop-test .taken), c .before .before .before .before .loop .inv .0 .long)
 
 shared-slice-read-total : tie.Need-shared-slice-read-total Inv-loop μ-loop
-shared-slice-read-total c = omega (arith, c .before .before .before .before .before .pre .2, c .before .before .before .loop-test .taken)
+shared-slice-read-total c = omega (arith, c .before .before .before .before .before .before .before .before .before .pre .2, c .before .before .before .before .loop-test .taken)
 
 slice-write-total : tie.Need-slice-write-total Inv-loop μ-loop
-slice-write-total c = omega (arith, c .before .before .before .before .before .pre .3 (c .before .before .before .before .loop .r) (c .before .before .before .loop-test .taken), c .before .before .before .before .loop .inv .0 .long)
+slice-write-total c = omega (arith, c .before .before .before .row-at .ensures, c .before .before .before .before .before .before .before .before .before .pre .3 (c .before .before .before .before .before .loop .r) (c .before .before .before .before .loop-test .taken), c .before .before .before .before .before .loop .inv .0 .long)
 
 add-r : tie.Need-add-r Inv-loop μ-loop
-add-r c = omega arith
+add-r c = omega (arith, c .before .before .before .before .loop-test .taken)
 
 loop-less : tie.Need-loop-less Inv-loop μ-loop
-loop-less c = omega arith
+loop-less c = omega (arith, c .before .before .before .before .loop-test .taken)
 
 loop-again : tie.Need-loop-again Inv-loop μ-loop
 unfolding _⊕_
-loop-again c = (adds-more (c .before .before .before .before .loop .inv .0) (c .before .before .before .before .before .pre .3 (c .before .before .before .before .loop .r) (c .before .before .before .loop-test .taken)), omega (arith, c .before .before .before .loop-test .taken))
+loop-again c = (rw (c .before .before .before .row-at .ensures) (adds-more (c .before .before .before .before .before .loop .inv .0) (c .before .before .before .before .before .before .before .before .before .pre .3 (c .before .before .before .before .before .loop .r) (c .before .before .before .before .loop-test .taken))), omega (arith, c .before .before .before .before .loop-test .taken))
 
 same-length : tie.Need-same-length Inv-loop μ-loop
-same-length c = c .before .loop .inv .0 .long ∙ sym (c .before .before .pre .0 .long)
+same-length c = c .before .loop .inv .0 .long ∙ sym (c .before .before .before .before .before .pre .0 .long)
 
 returns : tie.Need-returns Inv-loop μ-loop
 returns c = adds-all (c .before .loop .inv .0) (c .loop-test .left) (c .before .loop .inv .1)
@@ -58,8 +55,7 @@ add-up-spec =
     Inv-loop
     μ-loop
     loop-holds
-    mul-q
-    shared-slice-read-q
+    row-at-requires
     cast-q
     slice-read-total
     shared-slice-read-total

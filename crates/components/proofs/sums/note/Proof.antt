@@ -1,26 +1,22 @@
 -- `sums::note` meets its contract. Assumes nothing.
-use Rattle.components.specs.Lists.{gathers-in, gathers-out}
 use borrow.Author.Needs.{needs}
+use mathlib.Core.Path.{sym, _∙_}
+use native.Mathlib.Omega.{arith}
+use Rattle.components.specs.Lists.{gathers-in, gathers-out}
 use Rattle.components.proofs.sums.note.Statement.{statement}
 use Rattle.components.proofs.sums.note.Tie as tie
 
-cast-i : tie.Need-cast-i
-cast-i c = search needs
+cast-row-at : tie.Need-cast-row-at
+cast-row-at c = search needs
 
-mul-if1 : tie.Need-mul-if1
-mul-if1 c = search needs
-
-shared-slice-read-if1 : tie.Need-shared-slice-read-if1
-shared-slice-read-if1 c = search needs
+row-at-requires : tie.Need-row-at-requires
+row-at-requires c κs = search needs
 
 returns : tie.Need-returns
-returns c = gathers-out (c .before .before .before .before .pre .0) (c .if1 .taken)
+returns c = gathers-out (c .before .before .before .before .before .before .before .pre .0) (λ e. c .if1 .taken (c .before .before .before .row-at .ensures ∙ e))
 
-mul-witness : tie.Need-mul-witness
-mul-witness c = search needs
-
-slice-write-witness : tie.Need-slice-write-witness
-slice-write-witness c = search needs
+put-row-requires : tie.Need-put-row-requires
+put-row-requires c κs = search needs
 
 add-result : tie.Need-add-result
 add-result c = search needs
@@ -29,18 +25,16 @@ same-length : tie.Need-same-length
 same-length c = search needs
 
 returns-2 : tie.Need-returns-2
-returns-2 c = gathers-in (c .before .before .before .before .pre .0) (c .before .before .before .before .pre .4) (search needs)
+returns-2 c = rw (c .before .before .put-row .ensures) (gathers-in (c .before .before .before .before .before .before .before .before .before .before .before .pre .0) (c .before .before .before .before .before .before .before .before .before .before .before .pre .4) (sym (c .before .before .before .before .before .before .before .row-at .ensures) ∙ c .before .before .before .before .if1 .left))
 
 pub note-spec : {M : Type 1} → statement M
 note-spec =
     tie.close
     (tie.spec
-    cast-i
-    mul-if1
-    shared-slice-read-if1
+    cast-row-at
+    row-at-requires
     returns
-    mul-witness
-    slice-write-witness
+    put-row-requires
     add-result
     same-length
     returns-2)

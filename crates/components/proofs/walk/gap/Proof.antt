@@ -1,8 +1,8 @@
 -- `walk::gap` meets its contract: the leading zeros of the word are a law of specs/Gaps. Assumes nothing.
+use borrow.Author.Needs.{needs}
 use Prim.Native.Nat.{_-_, _*_, _%_, _^_}
 use native.Mathlib.Omega.{arith}
 use lib.Count.{leading-le}
-use borrow.Author.Needs.{needs}
 use Rattle.components.specs.Gaps.{gap-none, gap-word}
 use Rattle.components.proofs.walk.gap.Statement.{statement}
 use Rattle.components.proofs.walk.gap.Tie as tie
@@ -12,6 +12,9 @@ returns c = gap-none _ _
 
 byte-below-requires : tie.Need-byte-below-requires
 byte-below-requires c κs = search needs
+
+cast-known : tie.Need-cast-known
+cast-known c = search needs
 
 mul-known : tie.Need-mul-known
 mul-known c = search needs
@@ -29,13 +32,13 @@ shl-word : tie.Need-shl-word
 shl-word c = search needs
 
 cast-zeros : tie.Need-cast-zeros
-cast-zeros c = omega (arith, leading-le 64 (c .word-from .result * 2 ^ (64 - (c .before .before .before .before .args .c - 8 * c .before .byte-below .result)) % 2 ^ 64))
+cast-zeros c = omega (arith, leading-le 64 (c .word-from .result * 2 ^ (64 - (c .before .before .before .before .before .before .args .c .0 - 8 * c .before .before .byte-below .result)) % 2 ^ 64))
 
 returns-2 : tie.Need-returns-2
-returns-2 c = gap-word (c .before .before .before .before .before .args .c) (c .before .before .byte-below .result) _ (c .before .word-from .ensures) (c .before .before .byte-below .ensures .0) (c .before .before .byte-below .ensures .1) (omega arith) (omega arith)
+returns-2 c = gap-word (c .before .before .before .before .before .before .before .args .c .0) (c .before .before .before .byte-below .result) _ (c .before .word-from .ensures) (c .before .before .before .byte-below .ensures .0) (c .before .before .before .byte-below .ensures .1) (omega arith) (omega arith)
 
 returns-3 : tie.Need-returns-3
-returns-3 c = gap-word (c .before .before .before .before .before .args .c) (c .before .before .byte-below .result) _ (c .before .word-from .ensures) (c .before .before .byte-below .ensures .0) (c .before .before .byte-below .ensures .1) (omega arith) (omega arith)
+returns-3 c = gap-word (c .before .before .before .before .before .before .before .args .c .0) (c .before .before .before .byte-below .result) _ (c .before .word-from .ensures) (c .before .before .before .byte-below .ensures .0) (c .before .before .before .byte-below .ensures .1) (omega arith) (omega arith)
 
 pub gap-spec : {M : Type 1} → statement M
 gap-spec =
@@ -43,6 +46,7 @@ gap-spec =
     (tie.spec
     returns
     byte-below-requires
+    cast-known
     mul-known
     sub-known
     word-from-requires

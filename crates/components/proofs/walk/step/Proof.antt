@@ -1,6 +1,6 @@
 -- `walk::step` meets its contract: the steps are laws of specs/Walking. Assumes nothing.
-use Rattle.components.specs.Walking.{walking-gap, walking-bit, walking-joinable, walking-join}
 use borrow.Author.Needs.{needs}
+use Rattle.components.specs.Walking.{walking-gap, walking-bit, walking-joinable, walking-join}
 use Rattle.components.proofs.walk.step.Statement.{statement}
 use Rattle.components.proofs.walk.step.Tie as tie
 
@@ -9,9 +9,6 @@ back-requires c κs = search needs
 
 bit-requires : tie.Need-bit-requires
 bit-requires c κs = search needs
-
-cast-gap : tie.Need-cast-gap
-cast-gap c = search needs
 
 gap-requires : tie.Need-gap-requires
 gap-requires c κs = search needs
@@ -42,7 +39,6 @@ step-spec =
     (tie.spec
     back-requires
     bit-requires
-    cast-gap
     gap-requires
     back-requires-2
     returns

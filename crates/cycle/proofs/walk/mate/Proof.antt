@@ -1,63 +1,76 @@
 -- The tally less the weight at hand is the other's, and the row says the place.
+use borrow.Author.Needs.{needs}
 use mathlib.Core.Path.{refl}
 use native.Mathlib.Omega.{arith}
 use Rattle.cycle.specs.Walks.{mate-row, mate-room, mate-few, mate-shift, mate-place, mate}
 use Rattle.cycle.proofs.walk.mate.Statement.{statement}
 use Rattle.cycle.proofs.walk.mate.Tie as tie
 
+cast-r : tie.Need-cast-r
+cast-r c = search needs
+
 mul-section : tie.Need-mul-section
-mul-section c = omega (arith, mate-row (c .before .before .pre), c .before .before .pre .sized .t-max)
+mul-section c = search needs
 
 shared-slice-read-section : tie.Need-shared-slice-read-section
-shared-slice-read-section c = omega (arith, mate-row (c .before .before .before .pre), c .before .before .before .pre .long)
+shared-slice-read-section c = omega (arith, mate-row (c .before .before .before .before .pre), c .before .before .before .before .pre .long)
 
 cast-section : tie.Need-cast-section
-cast-section c = omega (arith, mate-few (c .before .before .before .pre))
+cast-section c = omega (arith, mate-few (c .before .before .before .before .pre))
+
+cast-section-2 : tie.Need-cast-section-2
+cast-section-2 c = search needs
+
+mul-section-2 : tie.Need-mul-section-2
+mul-section-2 c = search needs
 
 sub-section : tie.Need-sub-section
-sub-section c = omega (arith, mate-room (c .before .before .before .pre))
+sub-section c = omega (arith, mate-room (c .before .before .before .before .pre))
 
 sub-section-2 : tie.Need-sub-section-2
-sub-section-2 c = omega (arith, mate-room (c .before .before .before .before .pre))
+sub-section-2 c = omega (arith, mate-room (c .before .before .before .before .before .pre))
 
 mul-p : tie.Need-mul-p
-mul-p c = omega (arith, mate-few (c .before .before .before .before .pre))
+mul-p c = omega (arith, mate-few (c .before .before .before .before .before .pre))
 
 shared-slice-read-p : tie.Need-shared-slice-read-p
-shared-slice-read-p c = mate-shift (c .before .before .before .before .before .pre) refl .0
+shared-slice-read-p c = mate-shift (c .before .before .before .before .before .before .pre) refl .0
 
 cast-p : tie.Need-cast-p
-cast-p c = omega (arith, mate-shift (c .before .before .before .before .before .pre) refl .1, c .before .before .before .before .before .pre .sized .t-max)
+cast-p c = omega (arith, mate-shift (c .before .before .before .before .before .before .pre) refl .1, c .before .before .before .before .before .before .pre .sized .t-max)
 
 beside-requires : tie.Need-beside-requires
-beside-requires c κs = (mate-shift (c .before .before .before .before .before .pre) refl .1, mate-row (c .before .before .before .before .before .pre), c .before .before .before .before .before .pre .sized .t-max)
+beside-requires c κs = (mate-shift (c .before .before .before .before .before .before .pre) refl .1, mate-row (c .before .before .before .before .before .before .pre), c .before .before .before .before .before .before .pre .sized .t-max)
 
-mul-t14 : tie.Need-mul-t14
-mul-t14 c = omega (arith, mate-place (c .before .before .before .before .before .before .pre) refl (c .beside .ensures))
+mul-t17 : tie.Need-mul-t17
+mul-t17 c = omega (arith, mate-place (c .before .before .before .before .before .before .before .pre) refl (c .beside .ensures))
 
-add-t13 : tie.Need-add-t13
-add-t13 c = omega (arith, mate-place (c .before .before .before .before .before .before .pre) refl (c .beside .ensures))
+add-t16 : tie.Need-add-t16
+add-t16 c = omega (arith, mate-place (c .before .before .before .before .before .before .before .pre) refl (c .beside .ensures))
 
-cast-t12 : tie.Need-cast-t12
-cast-t12 c = omega (arith, mate-place (c .before .before .before .before .before .before .pre) refl (c .beside .ensures))
+cast-t13 : tie.Need-cast-t13
+cast-t13 c = omega (arith, mate-place (c .before .before .before .before .before .before .before .pre) refl (c .beside .ensures))
 
 returns : tie.Need-returns
-returns c = mate (c .before .before .before .before .before .before .pre) refl (c .beside .ensures) refl
+returns c = mate (c .before .before .before .before .before .before .before .pre) refl (c .beside .ensures) refl
 
 pub mate-spec : {M : Type 1} → statement M
 mate-spec =
     tie.close
     (tie.spec
+    cast-r
     mul-section
     shared-slice-read-section
     cast-section
+    cast-section-2
+    mul-section-2
     sub-section
     sub-section-2
     mul-p
     shared-slice-read-p
     cast-p
     beside-requires
-    mul-t14
-    add-t13
-    cast-t12
+    mul-t17
+    add-t16
+    cast-t13
     returns)

@@ -18,7 +18,7 @@ mul-result : tie.Need-mul-result
 mul-result c = search needs
 
 sub-result : tie.Need-sub-result
-sub-result c = omega (arith, divisor-most _ (c .before .before .before .pre .size .t-least) (c .divisor .ensures))
+sub-result c = omega (arith, divisor-most _ (c .before .before .before .pre .t-min) (c .divisor .ensures))
 
 returns : tie.Need-returns
 returns c = parity-is _ _ _ (c .before .before .before .pre) (c .divisor .ensures)

@@ -31,7 +31,7 @@ returns-2 c =
 powers-requires : tie.Need-powers-requires
 powers-requires c κs =
     let f = size-fitting _ _ (passed _ (c .before .before .before .size-fits .ensures) (c .before .before .if1 .left)) in
-    (f .n-most, f .t-least, f .t-most)
+    (f .n-max, f .t-min, f .t-max)
 
 good-requires : tie.Need-good-requires
 good-requires c κs = search needs

@@ -27,7 +27,7 @@ returns-2 c =
     ∙ straight-not _ _ (passed _ (c .before .before .before .size-fits .ensures) (c .before .before .if1 .left)) (omega arith)
 
 counting-requires : tie.Need-counting-requires
-counting-requires c κs = size-fitting _ _ (passed _ (c .before .before .size-fits .ensures) (c .before .if1 .left)) .n-most
+counting-requires c κs = size-fitting _ _ (passed _ (c .before .before .size-fits .ensures) (c .before .if1 .left)) .n-max
 
 good-requires : tie.Need-good-requires
 good-requires c κs = search needs

@@ -1,12 +1,12 @@
 -- `fill::fill` meets its contract: before each turn the block has the first i values added. Assumes nothing.
-use borrow.Author.Needs.{needs}
-use lib.ListN.{length}
 use mathlib.Core.Path.{_≡_, sym, _∙_, ap}
+use Prim.Native.Nat.{_-_, _≤_}
 use native.Mathlib.Nat.{le-antisymm}
 use native.Mathlib.Omega.{arith}
-use Prim.Native.Nat.{_-_, _≤_}
+use lib.ListN.{length}
 use Rattle.math.specs.Xor.{_⊕_}
-use Rattle.settling.specs.Fill.{filled, filled-none, filled-long, filled-inside, filled-next}
+use Rattle.settling.specs.Fill.{filled, filled-none, filled-long, filled-next, filled-inside}
+use borrow.Author.Needs.{needs}
 use Rattle.settling.proofs.fill.fill.Statement.{statement}
 use Rattle.settling.proofs.fill.fill.Tie as tie
 
@@ -19,23 +19,20 @@ abbrev μ-loop : tie.MeasureT-loop
 loop-holds : tie.Need-loop-holds Inv-loop μ-loop
 loop-holds c = (search needs, sym (filled-none _ _ _))
 
-mul-c : tie.Need-mul-c Inv-loop μ-loop
-mul-c c = omega arith
-
-shared-slice-read-c : tie.Need-shared-slice-read-c Inv-loop μ-loop
-shared-slice-read-c c = omega arith
+place-at-requires : tie.Need-place-at-requires Inv-loop μ-loop
+place-at-requires c κs = omega arith
 
 cast-c : tie.Need-cast-c Inv-loop μ-loop
-cast-c c = omega (arith, c .shared-slice-known .given (c .before .before .loop .i))
+cast-c c = search needs
 
 slice-read-block : tie.Need-slice-read-block Inv-loop μ-loop
-slice-read-block c = filled-inside _ _ _ _ (c .before .before .before .loop .inv .1) (c .before .before .before .before .pre) (c .before .before .loop-test .taken)
+slice-read-block c = filled-inside _ _ _ _ (c .before .before .before .before .loop .inv .1) (c .before .before .place-at .ensures) (c .before .before .before .before .before .before .before .before .pre) (c .before .before .before .loop-test .taken)
 
 shared-slice-read-block : tie.Need-shared-slice-read-block Inv-loop μ-loop
-shared-slice-read-block c = omega (arith, c .before .before .before .before .before .pre .values)
+shared-slice-read-block c = omega (arith, c .before .before .before .before .before .before .before .before .before .pre .values)
 
 slice-write-block : tie.Need-slice-write-block Inv-loop μ-loop
-slice-write-block c = filled-inside _ _ _ _ (c .before .before .before .before .loop .inv .1) (c .before .before .before .before .before .pre) (c .before .before .before .loop-test .taken)
+slice-write-block c = filled-inside _ _ _ _ (c .before .before .before .before .before .loop .inv .1) (c .before .before .before .place-at .ensures) (c .before .before .before .before .before .before .before .before .before .pre) (c .before .before .before .before .loop-test .taken)
 
 add-i : tie.Need-add-i Inv-loop μ-loop
 add-i c = omega arith
@@ -45,14 +42,28 @@ loop-less c = omega arith
 
 loop-again : tie.Need-loop-again Inv-loop μ-loop
 unfolding _⊕_
-loop-again c = (omega arith, filled-next _ _ _ _ (c .before .before .before .before .loop .inv .1))
+loop-again c = (omega arith, filled-next _ _ _ _ (c .before .before .before .before .before .loop .inv .1) (c .before .before .before .place-at .ensures))
 
 same-length : tie.Need-same-length Inv-loop μ-loop
 same-length c = ap length (c .before .loop .inv .1) ∙ filled-long _ _ _ _
 
 returns : tie.Need-returns Inv-loop μ-loop
-returns c =
-    c .before .loop .inv .1 ∙ ap (filled (c .before .before .args .block .now) (c .before .before .args .place .now) (c .before .before .args .value .now)) (le-antisymm (c .before .loop .inv .0) (c .loop-test .left))
+returns c = c .before .loop .inv .1 ∙ ap (filled (c .before .before .before .before .before .args .block .now) (c .before .before .before .before .before .args .place .now) (c .before .before .before .before .before .args .value .now)) (le-antisymm (c .before .loop .inv .0) (c .loop-test .left))
 
 pub fill-spec : {M : Type 1} → statement M
-fill-spec = tie.close (tie.spec Inv-loop μ-loop loop-holds mul-c shared-slice-read-c cast-c slice-read-block shared-slice-read-block slice-write-block add-i loop-less loop-again same-length returns)
+fill-spec =
+    tie.close
+    (tie.spec
+    Inv-loop
+    μ-loop
+    loop-holds
+    place-at-requires
+    cast-c
+    slice-read-block
+    shared-slice-read-block
+    slice-write-block
+    add-i
+    loop-less
+    loop-again
+    same-length
+    returns)

@@ -4,7 +4,8 @@ use mathlib.Core.List.{map}
 use lib.ListN.{length, length-map}
 use native.Mathlib.Omega.{arith}
 use Prim.Native.Nat.{_-_, _≤_}
-use Rattle.settling.specs.Fill.{Gathers, gathers-none, gathers-ones, gathers-all, one}
+use Rattle.slices.specs.Zeros.{Gathers, gathers-none, gathers-all}
+use Rattle.settling.specs.Fill.{gathers-ones, one}
 use Rattle.settling.proofs.zeros.no_ones.Statement.{statement}
 use Rattle.settling.proofs.zeros.no_ones.Tie as tie
 

@@ -2,7 +2,7 @@
 use mathlib.Core.Path.{sym, _∙_}
 use Prim.Native.Nat.{_*_}
 use native.Mathlib.Omega.{arith}
-use Rattle.tables.specs.Lowest.{dropped-less}
+use Rattle.bits.specs.Lowest.{dropped-less}
 use Rattle.tables.specs.Counting.{seen-long}
 use Rattle.tables.specs.Scan.{Noting, noting-start, noting-bit, noting-reached, noting-due, noting-more, noting-done, noting-section}
 use Rattle.tables.proofs.marks.note_across.Statement.{statement}
@@ -27,6 +27,9 @@ cast-c c = omega (arith, noting-bit (c .before .loop .inv) (c .loop-test .taken)
 add-c : tie.Need-add-c Inv-loop μ-loop
 add-c c = omega (arith, c .before .before .before .before .before .pre .0 .1, c .before .before .before .before .before .pre .0 .0 .marks-long, c .before .before .before .before .before .pre .0 .0 .sized .places-max, noting-bit (c .before .loop .inv) (c .loop-test .taken))
 
+cast-t17 : tie.Need-cast-t17 Inv-loop μ-loop
+cast-t17 c = omega (arith, c .before .before .before .before .before .pre .0 .1, c .before .before .before .before .before .pre .0 .0 .marks-long, c .before .before .before .before .before .pre .0 .0 .sized .places-max, noting-bit (c .before .loop .inv) (c .loop-test .taken))
+
 note-next-requires : tie.Need-note-next-requires Inv-loop μ-loop
 note-next-requires c κs = (noting-due (c .before .before .loop .inv) (c .before .loop-test .taken) (c .before .before .before .before .before .before .pre .0 .0), noting-reached (c .before .before .loop .inv) (c .before .loop-test .taken))
 
@@ -48,4 +51,4 @@ returns c = (noting-done (c .before .loop .inv) (c .loop-test .left), noting-sec
 pub note-across-spec : {M : Type 1} → statement M
 note-across-spec =
     tie.close
-    (tie.spec Inv-loop μ-loop loop-holds mul-c cast-c add-c note-next-requires sub-rest loop-less loop-again same-length returns)
+    (tie.spec Inv-loop μ-loop loop-holds mul-c cast-c add-c cast-t17 note-next-requires sub-rest loop-less loop-again same-length returns)

@@ -2,7 +2,7 @@
 use mathlib.Core.Path.{sym, _∙_}
 use Prim.Native.Nat.{_*_}
 use native.Mathlib.Omega.{arith}
-use Rattle.tables.specs.Lowest.{dropped-less}
+use Rattle.bits.specs.Lowest.{dropped-less}
 use Rattle.tables.specs.Counting.{seen-long, due-here, noted-here}
 use Rattle.tables.specs.Scan.{Noting, noting-start, noting-bit, noting-reached, noting-due, noting-more, noting-done}
 use Rattle.tables.proofs.marks.note_inside.Statement.{statement}

@@ -1,7 +1,6 @@
 -- `tables::marks::note_next` meets its contract: the place is noted in the section that is reached.
-use Prim.Native.Nat.{_+_}
-use native.Mathlib.Omega.{arith}
 use borrow.Author.Needs.{needs}
+use native.Mathlib.Omega.{arith}
 use Rattle.tables.specs.Counting.{due-here, due-inside, noted-here}
 use Rattle.tables.proofs.marks.note_next.Statement.{statement}
 use Rattle.tables.proofs.marks.note_next.Tie as tie
@@ -10,21 +9,27 @@ reach-requires : tie.Need-reach-requires
 reach-requires c κs = (c .before .before .pre .0 .sized, c .before .before .pre .1, omega (arith, due-inside (c .before .before .pre .0) (omega arith)))
 
 cast-t9 : tie.Need-cast-t9
-cast-t9 c = omega (arith, due-inside (c .before .before .before .pre .0) (omega arith), c .before .before .before .pre .0 .sized .places-max)
+cast-t9 c = search needs
 
-sub-t11 : tie.Need-sub-t11
-sub-t11 c = search needs
+sub-t10 : tie.Need-sub-t10
+sub-t10 c = search needs
 
 note-requires : tie.Need-note-requires
-note-requires c κs = due-here (c .before .before .before .before .before .pre .0) (omega arith) (c .before .before .reach .ensures .0) (c .before .before .reach .ensures .1)
+note-requires c κs = due-here (c .before .before .before .before .before .before .pre .0) (omega arith) (c .before .before .before .reach .ensures .0) (c .before .before .before .reach .ensures .1)
 
 same-length : tie.Need-same-length
 same-length c = search needs
 
 returns : tie.Need-returns
-returns c = (noted-here (c .before .before .before .before .before .before .before .before .pre .0 .sized) (c .before .before .before .before .before .reach .ensures .0) (c .before .before .before .before .before .reach .ensures .1) (c .before .before .note .ensures), c .before .before .before .before .before .reach .ensures .0)
+returns c = (noted-here (c .before .before .before .before .before .before .before .before .before .pre .0 .sized) (c .before .before .before .before .before .before .reach .ensures .0) (c .before .before .before .before .before .before .reach .ensures .1) (c .before .before .note .ensures), c .before .before .before .before .before .before .reach .ensures .0)
 
 pub note-next-spec : {M : Type 1} → statement M
 note-next-spec =
     tie.close
-    (tie.spec reach-requires cast-t9 sub-t11 note-requires same-length returns)
+    (tie.spec
+    reach-requires
+    cast-t9
+    sub-t10
+    note-requires
+    same-length
+    returns)

@@ -18,6 +18,9 @@ abbrev μ-loop : tie.MeasureT-loop
 loop-holds : tie.Need-loop-holds Inv-loop μ-loop
 loop-holds c = (omega arith, c .before .before .pre .0 .1, c .before .before .pre .0 .0, notes-none, c .before .before .pre .1)
 
+cast-t13 : tie.Need-cast-t13 Inv-loop μ-loop
+cast-t13 c = omega (arith, due-inside (c .before .loop .inv .2) (c .loop-test .taken), c .before .loop .inv .2 .sized .places-max)
+
 reach-requires : tie.Need-reach-requires Inv-loop μ-loop
 reach-requires c κs = (c .before .loop .inv .2 .sized, c .before .loop .inv .4, omega (arith, due-inside (c .before .loop .inv .2) (c .loop-test .taken)))
 
@@ -51,4 +54,16 @@ returns c = (notes-at (omega (arith, c .before .loop .inv .1, c .loop-test .left
 pub note-places-spec : {M : Type 1} → statement M
 note-places-spec =
     tie.close
-    (tie.spec Inv-loop μ-loop loop-holds reach-requires stretch-requires note-stretch-requires add-d loop-less loop-again same-length returns)
+    (tie.spec
+    Inv-loop
+    μ-loop
+    loop-holds
+    cast-t13
+    reach-requires
+    stretch-requires
+    note-stretch-requires
+    add-d
+    loop-less
+    loop-again
+    same-length
+    returns)

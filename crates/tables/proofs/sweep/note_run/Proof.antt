@@ -10,25 +10,19 @@ weight-requires c κs = search needs
 top-requires : tie.Need-top-requires
 top-requires c κs = search needs
 
-cast-a : tie.Need-cast-a
-cast-a c = search needs
-
 bottom-requires : tie.Need-bottom-requires
 bottom-requires c κs = search needs
 
-cast-b : tie.Need-cast-b
-cast-b c = search needs
-
 sweep-requires : tie.Need-sweep-requires
-sweep-requires c κs = (run-apart (c .before .before .before .before .before .before .before .pre .0) (c .before .before .before .before .before .before .before .pre .1 .0) (c .before .before .before .before .before .before .before .pre .1 .1) (c .before .before .before .before .top .ensures) (c .before .before .bottom .ensures) (c .before .before .before .before .before .before .before .pre .0 .long), run-room (c .before .before .before .before .before .before .before .pre .0) (c .before .before .before .before .before .before .before .pre .1 .0) (c .before .before .before .before .before .weight .ensures))
+sweep-requires c κs = (run-apart (c .before .before .before .before .before .pre .0) (c .before .before .before .before .before .pre .1 .0) (c .before .before .before .before .before .pre .1 .1) (c .before .before .top .ensures) (c .before .bottom .ensures) (c .before .before .before .before .before .pre .0 .long), run-room (c .before .before .before .before .before .pre .0) (c .before .before .before .before .before .pre .1 .0) (c .before .before .before .weight .ensures))
 
 same-length : tie.Need-same-length
 same-length c = search needs
 
 returns : tie.Need-returns
-returns c = run (c .before .before .before .before .before .before .before .top .ensures) (c .before .before .before .before .before .bottom .ensures) (c .before .before .before .before .before .before .before .before .weight .ensures) (c .before .before .sweep .ensures)
+returns c = run (c .before .before .before .before .before .top .ensures) (c .before .before .before .before .bottom .ensures) (c .before .before .before .before .before .before .weight .ensures) (c .before .before .sweep .ensures)
 
 pub note-run-spec : {M : Type 1} → statement M
 note-run-spec =
     tie.close
-    (tie.spec weight-requires top-requires cast-a bottom-requires cast-b sweep-requires same-length returns)
+    (tie.spec weight-requires top-requires bottom-requires sweep-requires same-length returns)

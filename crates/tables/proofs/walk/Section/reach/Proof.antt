@@ -1,47 +1,50 @@
 -- `tables::walk::Section::reach` meets its contract. The invariant: `end` is the place after section `index`, which begins at or before c.
+use borrow.Author.Needs.{needs}
+use native.Mathlib.Omega.{arith}
 use mathlib.Core.Path.{_≡_, refl}
 use Prim.Native.Nat.{_+_, _-_, _*_, _≤_, _<_}
-use native.Mathlib.Omega.{arith}
-use borrow.Author.Needs.{needs}
 use Rattle.tables.specs.Spots.{reached-end, section-next}
 use Rattle.tables.proofs.walk.Section.reach.Statement.{statement}
 use Rattle.tables.proofs.walk.Section.reach.Tie as tie
 
 abbrev Inv-loop : tie.InvT-loop
-Inv-loop n t shifts c index₀ end₀ index end = (index < n) × (end ≡ index * t + t) × (end ≤ c + t)
+Inv-loop n t shifts place index₀ end₀ index end = (index < n) × (end ≡ index * t + t) × (end ≤ place + t)
 
 abbrev μ-loop : tie.MeasureT-loop
-μ-loop n t shifts c index₀ end₀ index end = n - index
+μ-loop n t shifts place index₀ end₀ index end = n - index
+
+cast-place : tie.Need-cast-place Inv-loop μ-loop
+cast-place c = search needs
 
 returns : tie.Need-returns Inv-loop μ-loop
-returns c = (c .before .before .pre .1, c .if1 .taken)
+returns c = (c .before .before .before .pre .1, c .if1 .taken)
 
 loop-holds : tie.Need-loop-holds Inv-loop μ-loop
-loop-holds c = omega (arith, c .before .before .pre .1 .inside, c .before .before .pre .1 .begins, c .before .before .pre .1 .ends, c .before .before .pre .1 .passed)
+loop-holds c = omega (arith, c .before .before .before .pre .1 .inside, c .before .before .before .pre .1 .begins, c .before .before .before .pre .1 .ends, c .before .before .before .pre .1 .passed)
 
 add-index : tie.Need-add-index Inv-loop μ-loop
-add-index c = omega (arith, c .before .before .before .before .pre .0 .n-max, c .before .loop .inv)
+add-index c = omega (arith, c .before .before .before .before .before .pre .0 .n-max, c .before .loop .inv)
 
 add-end : tie.Need-add-end Inv-loop μ-loop
-add-end c = omega (arith, c .before .before .before .before .pre .0 .t-max, c .before .before .before .before .pre .0 .places-max, c .before .before .before .before .pre .2, c .before .loop .inv)
+add-end c = omega (arith, c .before .before .before .before .before .pre .0 .t-max, c .before .before .before .before .before .pre .0 .places-max, c .before .before .before .before .before .pre .2, c .before .loop .inv)
 
 loop-less : tie.Need-loop-less Inv-loop μ-loop
 loop-less c = omega (arith, c .before .loop .inv)
 
 loop-again : tie.Need-loop-again Inv-loop μ-loop
-loop-again c = omega (arith, section-next (c .before .before .before .before .args .n) (c .before .before .before .before .args .t) (c .before .loop .index) (c .before .before .before .before .args .c) (omega (arith, c .before .loop .inv, c .loop-test .taken)) (c .before .before .before .before .pre .2), c .before .loop .inv, c .loop-test .taken)
+loop-again c = omega (arith, section-next (c .before .before .before .before .before .args .n) (c .before .before .before .before .before .args .t) (c .before .loop .index) (c .before .before .before .before .before .args .c .0) (omega (arith, c .before .loop .inv, c .loop-test .taken)) (c .before .before .before .before .before .pre .2), c .before .loop .inv, c .loop-test .taken)
 
-sub-t10 : tie.Need-sub-t10 Inv-loop μ-loop
-sub-t10 c = omega (arith, c .before .loop .inv)
+sub-t11 : tie.Need-sub-t11 Inv-loop μ-loop
+sub-t11 c = omega (arith, c .before .loop .inv)
 
-mul-t11 : tie.Need-mul-t11 Inv-loop μ-loop
-mul-t11 c = omega (arith, c .before .before .before .before .pre .0 .n-max, c .before .loop .inv)
+mul-t12 : tie.Need-mul-t12 Inv-loop μ-loop
+mul-t12 c = omega (arith, c .before .before .before .before .before .pre .0 .n-max, c .before .loop .inv)
 
-shared-slice-read-t13 : tie.Need-shared-slice-read-t13 Inv-loop μ-loop
-shared-slice-read-t13 c = omega (arith, c .before .before .before .before .before .pre .0 .long, c .before .before .loop .inv)
+shared-slice-read-t14 : tie.Need-shared-slice-read-t14 Inv-loop μ-loop
+shared-slice-read-t14 c = omega (arith, c .before .before .before .before .before .before .pre .0 .long, c .before .before .loop .inv)
 
-cast-t14 : tie.Need-cast-t14 Inv-loop μ-loop
-cast-t14 c = omega (arith, c .shared-slice-known .given (c .before .before .loop .index))
+cast-t15 : tie.Need-cast-t15 Inv-loop μ-loop
+cast-t15 c = omega (arith, c .shared-slice-known .given (c .before .before .loop .index))
 
 returns-2 : tie.Need-returns-2 Inv-loop μ-loop
 returns-2 c = (reached-end (c .before .before .loop .inv .0) (c .before .before .loop .inv .1) (c .before .before .loop .inv .2) refl, c .before .loop-test .left)
@@ -52,14 +55,15 @@ reach-spec =
     (tie.spec
     Inv-loop
     μ-loop
+    cast-place
     returns
     loop-holds
     add-index
     add-end
     loop-less
     loop-again
-    sub-t10
-    mul-t11
-    shared-slice-read-t13
-    cast-t14
+    sub-t11
+    mul-t12
+    shared-slice-read-t14
+    cast-t15
     returns-2)

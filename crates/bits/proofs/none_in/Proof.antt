@@ -1,0 +1,60 @@
+-- `none_in` meets its contract: a part that is not 0 decides, or the last part. Assumes nothing.
+use mathlib.Core.Path.{refl}
+use borrow.Author.Needs.{needs}
+use borrow.Author.Tests.{not-true, not-false}
+use Rattle.bits.specs.Stretches.{none-first, none-middle, none-last}
+use Rattle.bits.proofs.none_in.Statement.{statement}
+use Rattle.bits.proofs.none_in.Tie as tie
+
+cut-of-requires : tie.Need-cut-of-requires
+cut-of-requires c κs = search needs
+
+add-end : tie.Need-add-end
+add-end c = search needs
+
+part-requires : tie.Need-part-requires
+part-requires c κs = search needs
+
+returns : tie.Need-returns
+returns c = none-first (c .before .before .before .cut-of .ensures) _ (c .before .part .ensures) refl (c .if1 .taken)
+
+sub-zero-bytes : tie.Need-sub-zero-bytes
+sub-zero-bytes c = search needs
+
+part-zero-bytes-start : tie.Need-part-zero-bytes-start
+part-zero-bytes-start c = search needs
+
+part-zero-bytes-end : tie.Need-part-zero-bytes-end
+part-zero-bytes-end c = search needs
+
+zero-bytes-requires : tie.Need-zero-bytes-requires
+zero-bytes-requires c κs = search needs
+
+returns-2 : tie.Need-returns-2
+returns-2 c =
+    let s = c .before .before .before .before .before .before in
+    none-middle (s .cut-of .ensures) _ (c .before .before .before .before .part .ensures) refl (s .before .before .pre) (λ j. s .before .shared-slice-known .given j .fits) (c .before .zero-bytes .ensures) (not-true _ (c .if2 .taken))
+
+part-requires-2 : tie.Need-part-requires-2
+part-requires-2 c κs = search needs
+
+returns-3 : tie.Need-returns-3
+returns-3 c =
+    let s = c .before .before .before .before .before .before .before in
+    none-last (s .cut-of .ensures) _ (c .before .before .before .before .before .part .ensures) (c .part2 .ensures) (s .before .before .pre) (λ j. s .before .shared-slice-known .given j .fits) (c .before .before .zero-bytes .ensures) (c .before .before .before .before .if1 .left) (not-false _ (c .before .if2 .left))
+
+pub none-in-spec : {M : Type 1} → statement M
+none-in-spec =
+    tie.close
+    (tie.spec
+    cut-of-requires
+    add-end
+    part-requires
+    returns
+    sub-zero-bytes
+    part-zero-bytes-start
+    part-zero-bytes-end
+    zero-bytes-requires
+    returns-2
+    part-requires-2
+    returns-3)

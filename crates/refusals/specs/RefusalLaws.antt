@@ -1,0 +1,75 @@
+-- Each number stands for one refusal, and none for success; what a check that passes, or stops, says of the tests in it.
+-- Main results: number-some, number-once, check-number-zero; pass-not-stop, stop-or-pass, decPass, stop-same, unless-pass, then-pass.
+use mathlib.Core.Path.{_≡_, refl, sym, _∙_, ap}
+use mathlib.Core.Logic.{_⊎_, inl, inr}
+use mathlib.Core.Bool.{Bool, true, false, cond}
+use Prim.Native.Nat.{ℕ, _<_}
+use native.Mathlib.Omega.{arith}
+use lib.Dec.{eqb}
+use Rattle.refusals.specs.Refusals.{numberOf, checkNumber, unless, _then_}
+use Rattle.refusals.specs.declared.Refusal.{Refusal}
+use Rattle.refusals.specs.declared.Refusal.the-variants.{Size, Shift, Length, Spare, Crossed, Loose, Command, Short, Early, Family, Unsealed}
+use Rattle.refusals.specs.declared.Check.{Check}
+use Rattle.refusals.specs.declared.Check.the-variants.{Pass, Stop}
+
+pub number-some : (x : Refusal) → 0 < numberOf x
+number-some Size = omega arith
+number-some Shift = omega arith
+number-some Length = omega arith
+number-some Spare = omega arith
+number-some Crossed = omega arith
+number-some Loose = omega arith
+number-some Command = omega arith
+number-some Short = omega arith
+number-some Early = omega arith
+number-some Family = omega arith
+number-some Unsealed = omega arith
+
+-- the refusal of a number, by which no two have the same
+named : ℕ → Refusal
+named n =
+    cond (eqb n 1) Size (cond (eqb n 2) Shift (cond (eqb n 3) Length (cond (eqb n 4) Spare (cond (eqb n 5) Crossed (cond (eqb n 6) Loose (cond (eqb n 7) Command
+    (cond (eqb n 8) Short (cond (eqb n 9) Early (cond (eqb n 10) Family Unsealed)))))))))
+
+named-back : (x : Refusal) → named (numberOf x) ≡ x
+unfolding named
+named-back Size = refl
+named-back Shift = refl
+named-back Length = refl
+named-back Spare = refl
+named-back Crossed = refl
+named-back Loose = refl
+named-back Command = refl
+named-back Short = refl
+named-back Early = refl
+named-back Family = refl
+named-back Unsealed = refl
+
+pub number-once : (x y : Refusal) → numberOf x ≡ numberOf y → x ≡ y
+number-once x y e = sym (named-back x) ∙ ap named e ∙ named-back y
+
+pub check-number-zero : (c : Check) → checkNumber c ≡ 0 → c ≡ Pass
+check-number-zero Pass e = refl
+check-number-zero (Stop x) e = absurd (omega (arith, number-some x, e))
+
+pub pass-not-stop : (x : Refusal) → Pass ≡ Stop x → ⊥
+pass-not-stop x e = let z : 0 ≡ numberOf x = ap checkNumber e in omega (arith, number-some x)
+
+pub stop-or-pass : (c : Check) → (c ≡ Pass) ⊎ ((x : Refusal) × (c ≡ Stop x))
+stop-or-pass Pass = inl refl
+stop-or-pass (Stop x) = inr (x, refl)
+
+pub decPass : (c : Check) → Dec (c ≡ Pass)
+decPass Pass = yes refl
+decPass (Stop x) = no (λ e. pass-not-stop x (sym e))
+
+pub stop-same : {x y : Refusal} → Stop x ≡ Stop y → x ≡ y
+stop-same {x} {y} e = number-once x y (ap checkNumber e)
+
+pub unless-pass : (b : Bool) (x : Refusal) → unless b x ≡ Pass → b ≡ true
+unless-pass true x e = refl
+unless-pass false x e = absurd (pass-not-stop x (sym e))
+
+pub then-pass : (a b : Check) → (a then b) ≡ Pass → (a ≡ Pass) × (b ≡ Pass)
+then-pass Pass b e = (refl, e)
+then-pass (Stop x) b e = absurd (pass-not-stop x (sym e))

@@ -1,0 +1,40 @@
+-- `slices::zero_words` meets its contract: `any` is the or of the numbers passed. Assumes nothing.
+use borrow.Author.Needs.{needs}
+use lib.ListN.{length}
+use native.Mathlib.Omega.{arith}
+use Prim.Native.Nat.{_-_, _≤_}
+use Rattle.slices.specs.Zeros.{Gathers, gathers-none, gathers-more, gathers-all}
+use Rattle.slices.proofs.zero_words.Statement.{statement}
+use Rattle.slices.proofs.zero_words.Tie as tie
+
+abbrev Inv-loop : tie.InvT-loop
+Inv-loop l any₀ i₀ any i = (i ≤ length l) × Gathers l i any
+
+abbrev μ-loop : tie.MeasureT-loop
+μ-loop l any₀ i₀ any i = length l - i
+
+loop-holds : tie.Need-loop-holds Inv-loop μ-loop
+loop-holds c = (search needs, gathers-none _)
+
+mul-any : tie.Need-mul-any Inv-loop μ-loop
+mul-any c = search needs
+
+shared-slice-read-any : tie.Need-shared-slice-read-any Inv-loop μ-loop
+shared-slice-read-any c = omega arith
+
+add-i : tie.Need-add-i Inv-loop μ-loop
+add-i c = omega arith
+
+loop-less : tie.Need-loop-less Inv-loop μ-loop
+loop-less c = omega arith
+
+loop-again : tie.Need-loop-again Inv-loop μ-loop
+loop-again c = (omega arith, gathers-more (c .before .before .loop .inv .1))
+
+returns : tie.Need-returns Inv-loop μ-loop
+returns c = gathers-all (c .before .loop .inv .1) (c .loop-test .left)
+
+pub zero-words-spec : {M : Type 1} → statement M
+zero-words-spec =
+    tie.close
+    (tie.spec Inv-loop μ-loop loop-holds mul-any shared-slice-read-any add-i loop-less loop-again returns)

@@ -1,0 +1,15 @@
+-- `refusing::powers` meets its contract. Assumes nothing.
+use Rattle.plan.specs.declared.Made.{Made}
+use mathlib.Core.Path.{ap}
+use borrow.Author.Needs.{needs}
+use Rattle.state.proofs.refusing.powers.Statement.{statement}
+use Rattle.state.proofs.refusing.powers.Tie as tie
+
+powers-requires : tie.Need-powers-requires
+powers-requires c κs = search needs
+
+returns : tie.Need-returns
+returns c = ap (λ (m : Made). m .answer) (c .powers .ensures)
+
+pub powers-spec : {M : Type 1} → statement M
+powers-spec = tie.close (tie.spec powers-requires returns)

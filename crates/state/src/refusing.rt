@@ -1,0 +1,126 @@
+// What refuses a command, by the plan alone: one function per test. Nothing here can wrap, whatever the plan says.
+ghost use mathlib.Core.Path.{_≡_};
+ghost use mathlib.Core.Bool.{true};
+ghost use Prim.Native.Nat.{_+_, _*_};
+ghost use lib.Dec.{leb, ltb};
+ghost use Rattle.refusals.specs.Refusals.{unless};
+ghost use Rattle.refusals.specs.declared.Check.the-variants as check;
+ghost use Rattle.refusals.specs.declared.Refusal.the-variants as refusals;
+ghost use Rattle.plan.specs.Plans.{blankOf, straightOf, powersOf, rulerOf};
+ghost use Rattle.state.specs.State.{State};
+ghost use Rattle.state.specs.Refusals.{early, refusalOf};
+use commands::Command;
+use plan::Plan;
+use refusals::Check;
+use refusals::Refusal;
+
+pub fn refusal(planned: bool, plan: Plan, command: Command) -> Check
+    ensures { λ r. ⌜ ((s : State) → s .planned ≡ planned → s .plan ≡ plan → r ≡ refusalOf s command) ⌝ }
+{
+    let sections = plan.n;
+    let symbols = plan.t;
+    match command {
+        Command::NewPlan { n, t } => blank(n as usize, t as usize),
+        Command::SetShift { j, p } => shift(planned, sections, symbols, j as usize, p as usize),
+        Command::SetSymbol { c, v: _ } => place(planned, sections, symbols, c as usize),
+        Command::MarkOne { c } => place(planned, sections, symbols, c as usize),
+        Command::MarkRun { c, m } => run(planned, sections, symbols, c as usize + m as usize),
+        Command::Recover => no_plan(planned),
+        Command::Seal => no_plan(planned),
+        Command::Show { c } => place(planned, sections, symbols, c as usize),
+        Command::Figures => no_plan(planned),
+        Command::Straight { n, t } => straight(n as usize, t as usize),
+        Command::Powers { n, t, q } => powers(n as usize, t as usize, q as usize),
+        Command::Ruler { n } => ruler(n as usize),
+    }
+}
+
+fn no_plan(planned: bool) -> Check
+    ensures { λ r. ⌜ r ≡ early planned true check.Pass ⌝ }
+{
+    if planned {
+        return Check::Pass;
+    }
+    Check::Stop(Refusal::Early)
+}
+
+fn shift(planned: bool, n: usize, t: usize, j: usize, p: usize) -> Check
+    ensures { λ r. ⌜ r ≡ early planned (ltb j n) (unless (ltb p t) refusals.Shift) ⌝ }
+{
+    if !planned {
+        return Check::Stop(Refusal::Early);
+    }
+    if n <= j {
+        return Check::Stop(Refusal::Early);
+    }
+    if t <= p {
+        return Check::Stop(Refusal::Shift);
+    }
+    Check::Pass
+}
+
+fn place(planned: bool, n: usize, t: usize, c: usize) -> Check
+    ensures { λ r. ⌜ r ≡ early planned (ltb c (n * t)) check.Pass ⌝ }
+{
+    if !planned {
+        return Check::Stop(Refusal::Early);
+    }
+    if !inside(n, t, c) {
+        return Check::Stop(Refusal::Early);
+    }
+    Check::Pass
+}
+
+// The run's end is handed over.
+fn run(planned: bool, n: usize, t: usize, end: usize) -> Check
+    ensures { λ r. ⌜ r ≡ early planned (leb end (n * t)) check.Pass ⌝ }
+{
+    if !planned {
+        return Check::Stop(Refusal::Early);
+    }
+    if end == 0 {
+        return Check::Pass;
+    }
+    if !inside(n, t, end - 1) {
+        return Check::Stop(Refusal::Early);
+    }
+    Check::Pass
+}
+
+// c is below n × t, with no product.
+fn inside(n: usize, t: usize, c: usize) -> bool
+    ensures { λ r. ⌜ r ≡ ltb c (n * t) ⌝ }
+{
+    if n == 0 {
+        return false;
+    }
+    c / n < t
+}
+
+fn blank(n: usize, t: usize) -> Check
+    ensures { λ r. ⌜ r ≡ blankOf n t .answer ⌝ }
+{
+    let made = Plan::blank(n, t);
+    made.answer
+}
+
+fn straight(n: usize, t: usize) -> Check
+    ensures { λ r. ⌜ r ≡ straightOf n t .answer ⌝ }
+{
+    let made = Plan::straight(n, t);
+    made.answer
+}
+
+fn powers(n: usize, t: usize, q: usize) -> Check
+    ensures { λ r. ⌜ r ≡ powersOf n t q .answer ⌝ }
+{
+    let made = Plan::powers(n, t, q);
+    made.answer
+}
+
+fn ruler(n: usize) -> Check
+    ensures { λ r. ⌜ r ≡ rulerOf n .answer ⌝ }
+{
+    let made = Plan::ruler(n);
+    made.answer
+}
