@@ -17,7 +17,7 @@ use Rattle.lines.specs.Lines.{line, symbolWord}
 use Rattle.commands.specs.declared.Command.the-variants.{NewPlan, SetShift, SetSymbol, MarkOne, MarkRun, Show, Straight, Powers, Ruler}
 use Rattle.state.specs.State.{State, fresh, withPlan, withBlock}
 use Rattle.bits.specs.Bits.{Marked}
-use Rattle.state.specs.Refusals.{refusalOf}
+use Rattle.state.specs.Refusing.{refusalOf}
 use Rattle.bits.specs.MarkedLaws.{Bytes, marked-no-spare}
 use Rattle.act.specs.Meaning.{Means, Marking}
 use Rattle.act.specs.Acts.{stateOf, Kept, Rest, Acts, blockLength}

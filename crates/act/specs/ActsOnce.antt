@@ -9,7 +9,7 @@ use Rattle.plan.specs.Plans.{layoutOf}
 use Rattle.code.specs.Marks.{markBytes}
 use Rattle.commands.specs.declared.Command.{Command}
 use Rattle.state.specs.State.{State}
-use Rattle.state.specs.Refusals.{refusalOf}
+use Rattle.state.specs.Refusing.{refusalOf}
 use Rattle.act.specs.Acts.{stateOf, Kept, Rest, Acts}
 use Rattle.act.specs.MeaningOnce.{Standing, means-once}
 use Rattle.act.specs.declared.Held.{Held}

@@ -23,7 +23,7 @@ use Rattle.lines.specs.Lines.{line, looseWord, crossedWord, sealedWord, figures
 use Rattle.commands.specs.declared.Command.{Command}
 use Rattle.commands.specs.declared.Command.the-variants.{NewPlan, SetShift, SetSymbol, MarkOne, MarkRun, Recover, Seal, Show, Figures, Straight, Powers, Ruler}
 use Rattle.state.specs.State.{State, fresh, withPlan, withBlock}
-use Rattle.state.specs.Refusals.{refusalOf}
+use Rattle.state.specs.Refusing.{refusalOf}
 use Rattle.bits.specs.MarkedOnce.{marked-once}
 use Rattle.act.specs.Meaning.{Means, Recovering, Sealing, Figuring, Marking}
 use Rattle.act.specs.StateLaws.{place-inside, mark-inside, run-inside, shift-inside, recover-planned, seal-planned}

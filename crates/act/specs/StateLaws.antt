@@ -25,7 +25,7 @@ use Rattle.code.specs.Laws.MarksLaws.{bit-zero, bit-suc, mark-at}
 use Rattle.commands.specs.declared.Command.the-variants.{SetShift, SetSymbol, MarkOne, MarkRun, Recover, Seal, Show, Figures}
 use Rattle.state.specs.State.{State, fresh}
 use Rattle.bits.specs.Bits.{Marked}
-use Rattle.state.specs.Refusals.{early, refusalOf}
+use Rattle.state.specs.Refusing.{early, refusalOf}
 use Rattle.bits.specs.MarkedLaws.{Bytes, no-marks-no-spare}
 use Rattle.act.specs.Acts.{stateOf, Kept, Rest, blockLength, marksLength}
 use Rattle.act.specs.declared.Held.{Held}

@@ -7,7 +7,7 @@ ghost use Prim.Native.Nat.{ℕ};
 ghost use Rattle.lines.specs.Lines.{lineLength, Wrote};
 ghost use Rattle.refusals.specs.declared.Check.the-variants as check;
 ghost use Rattle.commands.specs.declared.Command.the-variants as commands;
-ghost use Rattle.state.specs.Refusals.{refusalOf};
+ghost use Rattle.state.specs.Refusing.{refusalOf};
 ghost use Rattle.act.specs.Acts.{stateOf, Kept, Acts};
 use crate::Held;
 use bits::marks;

@@ -38,7 +38,7 @@ UnitesAt L c p q b = Unites p (top L c) (bottom L c) q b
 
 -- the walk stands at place c, symbol k of section j
 pub record Walking (n t : ℕ) (shifts marks p : List ℕ) (c j k : ℕ) (answer : Closing) : Type 0 where
-  pub sized : GoodPlan n t shifts
+  pub good : GoodPlan n t shifts
   pub bytes : length marks ≡ (n * t + 7) / 8
   pub stands : Stands t c j k
   pub inside : c ≤ n * t
@@ -90,11 +90,11 @@ module _ {n t : ℕ} {shifts : List ℕ} (s : GoodPlan n t shifts) (marks : List
 module _ {n t : ℕ} {shifts marks p : List ℕ} {c j k d j′ k′ : ℕ} {a : Closing} (w : Walking n t shifts marks p c j k a) (s : Stands t d j′ k′) where
   walking-skip : d ≤ c → ((e : ℕ) → d ≤ e → e < c → mark marks e ≡ 0) → Walking n t shifts marks p d j′ k′ a
   walking-skip l h = record {
-    sized = w .sized;
+    good = w .good;
     bytes = w .bytes;
     stands = s;
     inside = omega (arith, w .inside);
-    walks = walks-skip a (w .walks) l (λ e m f g. omega (arith, h e f g, layout-erasure (w .sized) marks m .1));
+    walks = walks-skip a (w .walks) l (λ e m f g. omega (arith, h e f g, layout-erasure (w .good) marks m .1));
   }
 
   -- back over a gap
@@ -122,11 +122,11 @@ walking-join {n} {t} {shifts} {marks} {p} {c} {a} d b w s e m u =
     let h : d .0 < n * t = omega (arith, w .inside) in
     let one : mark marks (d .0) ≡ 1 = omega (arith, m, mark-bit marks (d .0)) in
     record {
-      sized = w .sized;
+      good = w .good;
       bytes = w .bytes;
       stands = s;
       inside = omega arith;
-      walks = walks-join d a b (rising-erasures (layout n t shifts) marks) (erasure-layout (w .sized) marks h one)
+      walks = walks-join d a b (rising-erasures (layout n t shifts) marks) (erasure-layout (w .good) marks h one)
           (subst (λ i. Walks (layout n t shifts) (erasures (layout n t shifts) marks) p i a) (sym e) (w .walks)) u;
     }
 
@@ -135,7 +135,7 @@ pub walking-start : {n t : ℕ} {shifts : List ℕ} → GoodPlan n t shifts → 
     → Own p q (length p) → Walking n t shifts marks q (n * t) n 0 None
 unfolding layout
 walking-start {n} {t} {shifts} s marks {p} {q} b l h = record {
-  sized = s;
+  good = s;
   bytes = b;
   stands = record { whole = omega arith; within = s .t-min };
   inside = omega arith;
@@ -152,7 +152,7 @@ pub walking-passed : {n t : ℕ} {shifts marks p : List ℕ} {c j k r : ℕ} {a 
     → Passed n t shifts marks p a
 walking-passed {n} {t} {shifts} {marks} {p} {c} {a} w z h = record {
   falls = w .walks .joins .falls;
-  walks = walks-skip a (w .walks) (omega arith) (λ e m f g. omega (arith, z .none e (omega arith) (omega arith), layout-erasure (w .sized) marks m .1));
+  walks = walks-skip a (w .walks) (omega arith) (λ e m f g. omega (arith, z .none e (omega arith) (omega arith), layout-erasure (w .good) marks m .1));
 }
 
 -- the parents settled: they are the labels

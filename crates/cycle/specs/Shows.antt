@@ -22,7 +22,7 @@ use Rattle.code.specs.Laws.Paths.{∈-above, erased-above, path}
 use Rattle.code.specs.Laws.CycleLaws.{cycle-length, forest-no-cycle}
 use Rattle.code.specs.Laws.MarksLaws.{erasures-erased}
 use Rattle.tables.specs.Picture.{weight, onRow, Counted, Picture, Stuck}
-use Rattle.tables.specs.Sizes.{sized-∈}
+use Rattle.tables.specs.Sizes.{good-∈}
 use Rattle.tables.specs.Counting.{fromPlace, in-from, from-in}
 use Rattle.tables.specs.StuckLaws.{forest-sub, twos, met-two, cycle-survives, cycle-into, top-next, bottom-next, last-next}
 use Rattle.peel.specs.Peels.{Peelable, Peels, Peeled}
@@ -32,7 +32,7 @@ use Rattle.cycle.specs.Walks.{Walks, Walkable, Walked}
 
 -- c is the highest place that closes a cycle
 pub record Closing (n t : ℕ) (shifts marks : List ℕ) (c : ℕ) : Type 0 where
-  pub sized : GoodPlan n t shifts
+  pub good : GoodPlan n t shifts
   pub marks-long : length marks ≡ (n * t + 7) / 8
   pub no-spare : NoSpare (layout n t shifts) marks
   pub member : c ∈ erasures (layout n t shifts) marks
@@ -174,7 +174,7 @@ module _ {n t : ℕ} {shifts marks : List ℕ} {c : ℕ} (p : Closing n t shifts
       E = erasures L marks
 
       ok : Valid L
-      ok = plan-valid (p .sized)
+      ok = plan-valid (p .good)
 
       er : Erased L E
       er = erasures-erased L marks
@@ -198,21 +198,21 @@ module _ {n t : ℕ} {shifts marks : List ℕ} {c : ℕ} (p : Closing n t shifts
       cy = cycle-into inner (cycle-survives L ok (q .settles) (b .zeros) (b .picture .counted .erased) inner)
 
       inside : (i : ℕ) → i < length l → at l i < n * t
-      inside i h = sized-∈ (p .sized) (q .picture .counted .erased .inside (at l i) (cy .inside i h))
+      inside i h = good-∈ (p .good) (q .picture .counted .erased .inside (at l i) (cy .inside i h))
 
   pub closing-inside : c < n * t
-  closing-inside = sized-∈ (p .sized) (erasures-erased (layout n t shifts) marks .inside c (p .member))
+  closing-inside = good-∈ (p .good) (erasures-erased (layout n t shifts) marks .inside c (p .member))
 
   pub peelable : {sum tally queue place value : List ℕ} → Begun n t shifts marks c sum tally
       → length queue ≡ 2 * t → length place ≡ 2 * t → length value ≡ 2 * t → Peelable n t shifts sum tally queue place value
   peelable b lq lp lv =
-      record { sized = p .sized; pictured = record { E = _; u = _; picture = b .picture }; queue-long = lq; place-long = lp; value-long = lv }
+      record { good = p .good; pictured = record { E = _; u = _; picture = b .picture }; queue-long = lq; place-long = lp; value-long = lv }
 
   pub walkable : {tally : List ℕ} → Stripped n t shifts marks c tally → Walkable n t shifts tally c (c / t) (c % t)
   walkable s = record {
-    sized = p .sized;
+    good = p .good;
     long = s .long;
-    stands = record { whole = sym (div-add-mod' c t); within = mod-lt c (p .sized .t-min) };
+    stands = record { whole = sym (div-add-mod' c t); within = mod-lt c (p .good .t-min) };
     cycle = s .cycle;
     walks = s .walks;
   }
@@ -225,5 +225,5 @@ module _ {n t : ℕ} {shifts marks : List ℕ} {c : ℕ} (p : Closing n t shifts
         first = s .first;
         counted = v .counted (s .cycle) (s .walks);
         written = v .written (s .cycle) (s .walks);
-        highest = λ m cy. rw (s .first) (highest (layout n t shifts) (plan-valid (p .sized)) (erasures-erased (layout n t shifts) marks) (p .forest) m cy);
+        highest = λ m cy. rw (s .first) (highest (layout n t shifts) (plan-valid (p .good)) (erasures-erased (layout n t shifts) marks) (p .forest) m cy);
       }

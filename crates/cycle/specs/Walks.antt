@@ -17,7 +17,7 @@ use Rattle.code.specs.Places.{Meets}
 use Rattle.code.specs.Codewords.{at}
 use Rattle.code.specs.Laws.Basics.{meets-row}
 use Rattle.tables.specs.Picture.{tallyUnit, weight}
-use Rattle.tables.specs.Sizes.{∈-sized}
+use Rattle.tables.specs.Sizes.{∈-good}
 use Rattle.tables.specs.Spots.{Stands, stands-section, stands-inside, stands-top, stands-bottom}
 use Rattle.tables.specs.Beside.{Beside, beside-offset, beside-place}
 
@@ -32,7 +32,7 @@ pub record Two (n t : ℕ) (shifts tally : List ℕ) (r c d : ℕ) : Type 0 wher
 
 -- what `mate` requires: place c is symbol k of section j, and row r has it and another
 pub record Mating (n t : ℕ) (shifts tally : List ℕ) (r c j k : ℕ) : Type 0 where
-  pub sized : GoodPlan n t shifts
+  pub good : GoodPlan n t shifts
   pub long : length tally ≡ 2 * t
   pub stands : Stands t c j k
   pub other : ℕ
@@ -45,7 +45,7 @@ pub record Mate (n t : ℕ) (shifts tally : List ℕ) (r c place j k : ℕ) : Ty
 module _ {n t : ℕ} {shifts tally : List ℕ} {r c j k : ℕ} (m : Mating n t shifts tally r c j k) where
   pub mate-row : r < 2 * t
   unfolding layout
-  mate-row = meets-row (layout n t shifts) (plan-valid (m .sized)) (m .other) (m .two .other-meets)
+  mate-row = meets-row (layout n t shifts) (plan-valid (m .good)) (m .other) (m .two .other-meets)
 
   sections : (d : ℕ) → Two n t shifts tally r c d → getD tally r 0 ≡ 2 * tallyUnit + j + d / t
   unfolding weight
@@ -55,7 +55,7 @@ module _ {n t : ℕ} {shifts tally : List ℕ} {r c j k : ℕ} (m : Mating n t s
   mate-room = omega (arith, sections (m .other) (m .two))
 
   section-small : (d : ℕ) → Two n t shifts tally r c d → d / t < n
-  section-small d w = div-lt-iff-lt-mul {y = n} (m .sized .t-min) .1 (w .other-inside)
+  section-small d w = div-lt-iff-lt-mul {y = n} (m .good .t-min) .1 (w .other-inside)
 
   pub mate-few : getD tally r 0 < 4 * tallyUnit
   mate-few =
@@ -64,7 +64,7 @@ module _ {n t : ℕ} {shifts tally : List ℕ} {r c j k : ℕ} (m : Mating n t s
         sections (m .other) (m .two),
         section-small (m .other) (m .two),
         stands-inside (m .stands) n (m .two .one-inside),
-        m .sized .n-max,
+        m .good .n-max,
       )
 
   -- i is the other section
@@ -75,14 +75,14 @@ module _ {n t : ℕ} {shifts tally : List ℕ} {r c j k : ℕ} (m : Mating n t s
     pub mate-shift : (i < length shifts) × (getD shifts i 0 < t)
     mate-shift =
         let h : i < n = subst (λ x. x < n) (its-section (m .other) (m .two)) (section-small (m .other) (m .two)) in
-        (omega (arith, m .sized .long), m .sized .below i h)
+        (omega (arith, m .good .long), m .good .below i h)
 
     module _ {o b : ℕ} (q : Beside t (getD shifts i 0) r o b) where
       found : (d : ℕ) → Two n t shifts tally r c d → i * t + o ≡ d
-      found d w = beside-place (m .sized) (∈-sized (m .sized) (w .other-inside)) (w .other-meets) (its-section d w) q
+      found d w = beside-place (m .good) (∈-good (m .good) (w .other-inside)) (w .other-meets) (its-section d w) q
 
       pub mate-place : i * t + o < maxPlaces
-      mate-place = omega (arith, found (m .other) (m .two), m .two .other-inside, m .sized .places-max)
+      mate-place = omega (arith, found (m .other) (m .two), m .two .other-inside, m .good .places-max)
 
       pub mate : {place : ℕ} → place ≡ i * t + o → Mate n t shifts tally r c place i o
       mate ep = record {
@@ -90,7 +90,7 @@ module _ {n t : ℕ} {shifts tally : List ℕ} {r c j k : ℕ} (m : Mating n t s
           ep ∙ found d w,
           record {
             whole = sym (found d w);
-            within = rw (beside-offset (m .sized) (∈-sized (m .sized) (w .other-inside)) (w .other-meets) (its-section d w) q) (mod-lt d (m .sized .t-min));
+            within = rw (beside-offset (m .good) (∈-good (m .good) (w .other-inside)) (w .other-meets) (its-section d w) q) (mod-lt d (m .good .t-min));
           },
         );
       }
@@ -104,7 +104,7 @@ pub record Couple (n t : ℕ) (shifts tally : List ℕ) (c d e : ℕ) : Type 0 w
 
 -- what `pair` requires: place c is symbol k of section j
 pub record Coupled (n t : ℕ) (shifts tally : List ℕ) (c j k : ℕ) : Type 0 where
-  pub sized : GoodPlan n t shifts
+  pub good : GoodPlan n t shifts
   pub long : length tally ≡ 2 * t
   pub stands : Stands t c j k
   pub second : ℕ
@@ -121,7 +121,7 @@ module _ {n t : ℕ} {shifts tally : List ℕ} {c j k : ℕ} (p : Coupled n t sh
   at-top {d} w = subst (λ r. Two n t shifts tally r c d) (stands-top (p .stands) n shifts ∙ sym eh) w
 
   pub couple-top : Mating n t shifts tally h c j k
-  couple-top = record { sized = p .sized; long = p .long; stands = p .stands; other = p .second; two = at-top (p .couple .on-top) }
+  couple-top = record { good = p .good; long = p .long; stands = p .stands; other = p .second; two = at-top (p .couple .on-top) }
 
   -- what the top row gives
   module _ {place i o : ℕ} (m : Mate n t shifts tally h c place i o) where
@@ -132,7 +132,7 @@ module _ {n t : ℕ} {shifts tally : List ℕ} {c j k : ℕ} (p : Coupled n t sh
     second-shift =
         let s = second-is (p .second) (p .couple .on-top) .1 in
         let l : i < n = stands-inside s n (p .couple .on-top .other-inside) in
-        (omega (arith, p .sized .long), s .within, p .sized .below i l)
+        (omega (arith, p .good .long), s .within, p .good .below i l)
 
     module _ {b : ℕ} (eb : b ≡ bottomRow t (getD shifts i 0) o) where
       at-bottom : {d e : ℕ} → Couple n t shifts tally c d e → Two n t shifts tally b place e
@@ -144,7 +144,7 @@ module _ {n t : ℕ} {shifts tally : List ℕ} {c j k : ℕ} (p : Coupled n t sh
       couple-bottom =
           let s = second-is (p .second) (p .couple .on-top) in
           record {
-            sized = p .sized;
+            good = p .good;
             long = p .long;
             stands = subst (λ x. Stands t x i o) (sym (s .0)) (s .1);
             other = p .third;
@@ -174,7 +174,7 @@ pub record Walks (n t : ℕ) (shifts tally : List ℕ) (first : ℕ) (l : List �
 
 -- what `walk` requires: the first place is symbol k of section j
 pub record Walkable (n t : ℕ) (shifts tally : List ℕ) (first j k : ℕ) : Type 0 where
-  pub sized : GoodPlan n t shifts
+  pub good : GoodPlan n t shifts
   pub long : length tally ≡ 2 * t
   pub stands : Stands t first j k
   pub cycle : List ℕ
@@ -229,8 +229,8 @@ module _ {n t : ℕ} {shifts tally : List ℕ} {first : ℕ} {l : List ℕ} (sz 
     pub walking-couple : length tally ≡ 2 * t → Coupled n t shifts tally place j k
     walking-couple long =
         by-cases (decLt (z + 2) (length l))
-        (λ h. record { sized = sz; long = long; stands = g .stands; second = _; third = _; couple = couple-more h })
-        (λ h. record { sized = sz; long = long; stands = g .stands; second = _; third = _; couple = couple-last (omega (arith, s .even, g .count, g .below)) })
+        (λ h. record { good = sz; long = long; stands = g .stands; second = _; third = _; couple = couple-more h })
+        (λ h. record { good = sz; long = long; stands = g .stands; second = _; third = _; couple = couple-last (omega (arith, s .even, g .count, g .below)) })
 
     module _ {w' : List ℕ} {place' j' k' : ℕ} (p : Paired n t shifts tally place w w' z place' j' k') where
       written-two : (e : ℕ) → Couple n t shifts tally place (at l (z + 1)) e → w' ≡ padded (2 * t) (take (z + 2) l)

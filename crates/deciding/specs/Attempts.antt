@@ -23,7 +23,7 @@ use Rattle.code.specs.Laws.Forest.{Erased, Forest}
 use Rattle.code.specs.Laws.Basics.{places-∈, syndrome-ext}
 use Rattle.code.specs.Laws.MarksLaws.{erasures-erased}
 use Rattle.tables.specs.Picture.{weight, Counted, Picture}
-use Rattle.tables.specs.Sizes.{∈-sized}
+use Rattle.tables.specs.Sizes.{∈-good}
 use Rattle.tables.specs.Counting.{fromPlace, from-zero}
 use Rattle.tables.specs.Scan.{Lent}
 use Rattle.sums.specs.SumLaws.{Syndromes}
@@ -167,7 +167,7 @@ module _ {n t : ℕ} {shifts block marks witness sum tally place value tally₀ 
     (b : Tables n t shifts block sum tally₀ place value) (s : Begun n t shifts block marks sum tally) where
   pub attempt-peels : Peelable n t shifts sum tally witness place value
   attempt-peels = record {
-    sized = g .marked .sized;
+    good = g .marked .good;
     pictured = record { E = _; u = _; picture = s .picture };
     queue-long = g .witness-long;
     place-long = b .place-long;
@@ -193,7 +193,7 @@ module _ {n t : ℕ} {shifts block marks witness sum tally place value : List �
   tried-fills = record {
     places = omega (arith, d .peels .few, d .peels .place-long);
     values = omega (arith, d .peels .few, d .peels .value-long);
-    inside = settled-in (layout n t shifts) (plan-valid (g .marked .sized)) (erasures (layout n t shifts) marks) block (erasures-erased (layout n t shifts) marks) (g .block-long) peeled;
+    inside = settled-in (layout n t shifts) (plan-valid (g .marked .good)) (erasures (layout n t shifts) marks) block (erasures-erased (layout n t shifts) marks) (g .block-long) peeled;
   }
 
   pub tried-recovers : {a : Recovery} {v' w' : List ℕ} → cleanOf sum tally ≡ true → v' ≡ filled block place value k
@@ -202,11 +202,11 @@ module _ {n t : ℕ} {shifts block marks witness sum tally place value : List �
   unfolding layout
   tried-recovers clean e q =
       let L = layout n t shifts in
-      let ok = plan-valid (g .marked .sized) in
+      let ok = plan-valid (g .marked .good) in
       let E = erasures L marks in
       let er = erasures-erased L marks in
       rw (e, q .0) (decides-recovered (filled-agrees L ok E block er (g .block-long) peeled clean)
-      (filled-only L ok E block er (g .block-long) peeled clean (λ c. ∈-sized (g .marked .sized)))
+      (filled-only L ok E block er (g .block-long) peeled clean (λ c. ∈-good (g .marked .good)))
       (q .1 ∙ ap (λ i. replicate i 0) (g .witness-long)))
 
   pub tried-room : Room t sum tally place value
@@ -225,7 +225,7 @@ module _ {n t : ℕ} {shifts block marks witness sum tally place value : List �
   tried-explains dirty x =
       x .decides block (peeled .x) (g .block-long) (d .begun .symbols)
       (λ c m out. peeled .settles .kept c out) (peeled .picture .sums)
-      (forest-none (layout n t shifts) (plan-valid (g .marked .sized)) (erasures (layout n t shifts) marks) block
+      (forest-none (layout n t shifts) (plan-valid (g .marked .good)) (erasures (layout n t shifts) marks) block
       (erasures-erased (layout n t shifts) marks) (g .block-long) peeled dirty)
 
 -- ---- the call
@@ -236,7 +236,7 @@ call-given p v m w pass =
     let l = recover-lengths p v m w pass in
     record {
       marked = record {
-        sized = good-bounds p (pass-good p (recoverLent v m w) m pass);
+        good = good-bounds p (pass-good p (recoverLent v m w) m pass);
         marks-long = l .1;
         no-spare = pass-spare p (recoverLent v m w) m pass (l .1);
       };

@@ -10,7 +10,7 @@ use Rattle.commands.specs.declared.Command.the-variants.{NewPlan, SetShift, Str
 use Rattle.lines.specs.Lines.{Wrote}
 use Rattle.lines.specs.LinesLaws.{wrote-none}
 use Rattle.state.specs.State.{State}
-use Rattle.state.specs.Refusals.{refusalOf}
+use Rattle.state.specs.Refusing.{refusalOf}
 use Rattle.act.specs.Acts.{stateOf, Acts}
 use Rattle.act.specs.declared.Held.{Held}
 

@@ -4,7 +4,7 @@ ghost use mathlib.Core.Path.{_≡_};
 ghost use lib.ListN.{length, take};
 ghost use Rattle.lines.specs.Lines.{lineLength, Wrote};
 ghost use Rattle.refusals.specs.declared.Check.the-variants as check;
-ghost use Rattle.state.specs.Refusals.{refusalOf};
+ghost use Rattle.state.specs.Refusing.{refusalOf};
 ghost use Rattle.act.specs.Acts.{stateOf, Kept, Acts};
 use act::Held;
 use act::plans;

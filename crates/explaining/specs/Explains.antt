@@ -91,7 +91,7 @@ loosens-forest f = record { decides = λ v a none. absurd (none f (a .0) (a .1))
 module _ {n t : ℕ} {shifts marks : List ℕ} (m : Scan.Lent n t shifts marks) where
   pub marked-closing : {c : ℕ} → Closes (layout n t shifts) (erasures (layout n t shifts) marks) c → cycle.Closing n t shifts marks c
   marked-closing h = record {
-    sized = m .sized;
+    good = m .good;
     marks-long = m .marks-long;
     no-spare = m .no-spare;
     member = h .marked;
@@ -105,7 +105,7 @@ module _ {n t : ℕ} {shifts marks : List ℕ} (m : Scan.Lent n t shifts marks) 
   loosens-shown {w' = w'} h = record {
     decides = λ v a none.
         subst (λ i. Decides (layout n t shifts) (erasures (layout n t shifts) marks) v (Loose i) v w') (sym (h .counted))
-        (decides-loose (plan-valid (m .sized)) (erasures-erased (layout n t shifts) marks) (h .is-cycle) (h .highest) a (h .written));
+        (decides-loose (plan-valid (m .good)) (erasures-erased (layout n t shifts) marks) (h .is-cycle) (h .highest) a (h .written));
   }
 
   -- the labels of the rows, and the sums
@@ -113,8 +113,8 @@ module _ {n t : ℕ} {shifts marks : List ℕ} (m : Scan.Lent n t shifts marks) 
     pub labels-lent : {sum total w : List ℕ} → length sum ≡ 2 * t → length total ≡ 2 * t → length w ≡ 2 * t → Lent t parent sum total w
     unfolding layout
     labels-lent ls lt lw = record {
-      t-min = m .sized .t-min;
-      t-max = m .sized .t-max;
+      t-min = m .good .t-min;
+      t-max = m .good .t-max;
       parent-long = labelled .long;
       sum-long = ls;
       total-long = lt;
@@ -126,11 +126,11 @@ module _ {n t : ℕ} {shifts marks : List ℕ} (m : Scan.Lent n t shifts marks) 
         → Explains (layout n t shifts) (erasures (layout n t shifts) marks) sum (Crossed z) w'
     unfolding layout
     labels-crossed shows e =
-        explains-crossed (layout n t shifts) (plan-valid (m .sized)) (erasures-erased (layout n t shifts) marks) labelled (rw e at shows)
+        explains-crossed (layout n t shifts) (plan-valid (m .good)) (erasures-erased (layout n t shifts) marks) labelled (rw e at shows)
 
     pub labels-loose : {sum w w₁ w' : List ℕ} {a : Rows} {r : Recovery} → Shows t parent sum w w₁ a → a ≡ rows.Balanced
         → Loosens (layout n t shifts) (erasures (layout n t shifts) marks) r w'
         → Explains (layout n t shifts) (erasures (layout n t shifts) marks) sum r w'
     unfolding layout
     labels-loose shows e =
-        explains-loose (layout n t shifts) (plan-valid (m .sized)) (erasures-erased (layout n t shifts) marks) labelled (rw e at shows)
+        explains-loose (layout n t shifts) (plan-valid (m .good)) (erasures-erased (layout n t shifts) marks) labelled (rw e at shows)

@@ -12,7 +12,7 @@ use Rattle.commands.specs.declared.Command.{Command}
 use Rattle.commands.specs.declared.Parsed.the-variants.{Whole, Unknown, Short, Nothing}
 use Rattle.lines.specs.Lines.{line, endWord}
 use Rattle.state.specs.State.{State}
-use Rattle.state.specs.Refusals.{refusalOf}
+use Rattle.state.specs.Refusing.{refusalOf}
 use Rattle.act.specs.Meaning.{Means}
 use Rattle.act.specs.MeaningOnce.{Standing, means-stands, means-once}
 use Rattle.turns.specs.Sheets.{Sheet, start, refusedLine, ends, unknown, short, refused, goes-on}

@@ -18,7 +18,7 @@ use Rattle.commands.specs.declared.Parsed.{Parsed}
 use Rattle.commands.specs.declared.Parsed.the-variants.{Whole, Unknown, Short, Nothing}
 use Rattle.lines.specs.Lines.{line, endWord}
 use Rattle.state.specs.State.{State}
-use Rattle.state.specs.Refusals.{refusalOf}
+use Rattle.state.specs.Refusing.{refusalOf}
 use Rattle.act.specs.Meaning.{Means}
 use Rattle.act.specs.Acts.{stateOf}
 use Rattle.act.specs.declared.Held.{Held}

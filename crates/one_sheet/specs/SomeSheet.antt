@@ -31,7 +31,7 @@ use Rattle.commands.specs.declared.Parsed.the-variants.{Whole, Unknown, Short, 
 use Rattle.lines.specs.Lines.{line, endWord, recoveredWord, looseWord, crossedWord, sealedWord, symbolWord, figuresWord}
 use Rattle.state.specs.State.{State, fresh, withPlan, withBlock}
 use Rattle.bits.specs.Bits.{Marked}
-use Rattle.state.specs.Refusals.{refusalOf}
+use Rattle.state.specs.Refusing.{refusalOf}
 use Rattle.bits.specs.MarkedLaws.{Bytes, bytes-set}
 use Rattle.act.specs.Meaning.{Means}
 use Rattle.act.specs.MeaningOnce.{Standing, means-stands}

@@ -21,7 +21,7 @@ use Rattle.code.specs.Laws.Basics.{places-∈}
 use Rattle.code.specs.Laws.Carrying.{lists-unique, carried-some}
 use Rattle.code.specs.Laws.ParityCount.{parities, messages, erased-parities, forest-parities, parity-lists, parity-or-message, message-lists}
 use Rattle.tables.specs.Picture.{Counted, Picture}
-use Rattle.tables.specs.Sizes.{∈-sized}
+use Rattle.tables.specs.Sizes.{∈-good}
 use Rattle.tables.specs.Spots.{Stands, stands-section, stands-offset}
 use Rattle.sums.specs.SumLaws.{Syndromes}
 use Rattle.tables.specs.Counting.{Seen, All, Due, Notes, seen-skip, seen-all}
@@ -35,7 +35,7 @@ use Rattle.runs.specs.Laws.Carried.{layout-count}
 
 -- a plan's numbers, its runs, and a block of its length
 pub record Sealable (n t : ℕ) (shifts runs block : List ℕ) : Type 0 where
-  pub sized : GoodPlan n t shifts
+  pub good : GoodPlan n t shifts
   pub of : RunsOf n t (layout n t shifts) runs
   pub block-long : length block ≡ n * t
 
@@ -113,7 +113,7 @@ module _ {n t : ℕ} {shifts runs : List ℕ} (s : GoodPlan n t shifts) (h : Run
 
     pub section-due : Due n t shifts c e tally
     section-due = record {
-      sized = s;
+      good = s;
       E = parities (layout n t shifts);
       erased = erased-parities (layout n t shifts);
       all = section-all;
@@ -143,7 +143,7 @@ parity-picture byte s c = record { sum-long = s .long; byte = byte; sums = s .ea
 pub peelable : {n t : ℕ} {shifts : List ℕ} → GoodPlan n t shifts → (v : List ℕ) {sum tally queue place value : List ℕ} →
     ParityPicture (layout n t shifts) v sum tally → Room t queue place value → Peelable n t shifts sum tally queue place value
 peelable {n} {t} {shifts} s v p room = record {
-  sized = s;
+  good = s;
   pictured = record { E = parities (layout n t shifts); u = λ c. getD v c 0; picture = p };
   queue-long = room .first-long;
   place-long = room .second-long;
@@ -191,7 +191,7 @@ module _ {n t : ℕ} {shifts : List ℕ} (s : GoodPlan n t shifts) (v : List ℕ
         (λ c h. filled-is c
         ∙ sym (ends .settles .forced (at w) (a .codeword .sums)
         (λ d i out. a .unmarked d (places-∈ (layout n t shifts) i .0) out)
-        c (∈-sized s (omega (arith, filled-long v place value k))) (λ q. List·Memᴰ·not-nil (subst (λ F. c ∈ F) none-left q))));
+        c (∈-good s (omega (arith, filled-long v place value k))) (λ q. List·Memᴰ·not-nil (subst (λ F. c ∈ F) none-left q))));
   }
 
 map-at : (f g : ℕ → ℕ) {l : List ℕ} {c : ℕ} → map f l ≡ map g l → c ∈ l → f c ≡ g c
@@ -217,4 +217,4 @@ sealed {n} {t} {shifts} {d} s e byte spread q =
     let L = layout n t shifts in
     let ok : Valid L = plan-valid s in
     let c = carried-some L ok d (e ∙ sym (layout-count n t shifts s)) byte in
-    subst (λ x. Carries L x d) (sym (q .found (c .0) (spread-agrees L ok (λ a h. ∈-sized s h) spread (c .1)))) (c .1)
+    subst (λ x. Carries L x d) (sym (q .found (c .0) (spread-agrees L ok (λ a h. ∈-good s h) spread (c .1)))) (c .1)

@@ -27,7 +27,7 @@ pub record Reached (L : Layout) (E : List ℕ) (u : ℕ → ℕ) (sum tally plac
 
 -- between two turns
 pub record Ready (n t : ℕ) (shifts sum tally queue place value : List ℕ) (head tail count : ℕ) : Type 0 where
-  pub sized : GoodPlan n t shifts
+  pub good : GoodPlan n t shifts
   pub pictured : Pictured (layout n t shifts) sum tally
   pub queued : Queued tally queue (2 * t) head tail
   pub counted : count ≤ head
@@ -67,7 +67,7 @@ module _ {n t : ℕ} {shifts sum tally queue place value : List ℕ} {head tail 
       → Steps n t shifts sum tally queue place value head count sum tally queue place value tail count
   steps-over e = record {
     ready = record {
-      sized = d .sized;
+      good = d .good;
       pictured = d .pictured;
       queued = passed (d .queued) h (λ o. e (rw at-head o));
       counted = omega (arith, d .counted);
@@ -79,7 +79,7 @@ module _ {n t : ℕ} {shifts sum tally queue place value : List ℕ} {head tail 
   }
 
   pub head-one : counts tally r ≡ 1 → One n t shifts sum tally r
-  head-one e = record { sized = d .sized; pictured = d .pictured; row = rw at-head (head-row d h); left-one = e }
+  head-one e = record { good = d .good; pictured = d .pictured; row = rw at-head (head-row d h); left-one = e }
 
   module _ {sum' tally' : List ℕ} {c x b : ℕ} (k : Takes (layout n t shifts) sum tally sum' tally' r c x b) where
     step-waits : Waits tally' queue (2 * t) (head + 1) tail b
@@ -97,7 +97,7 @@ module _ {n t : ℕ} {shifts sum tally queue place value : List ℕ} {head tail 
         → Steps n t shifts sum tally queue place value head count sum' tally' queue' place' value' tail' (count + 1)
     steps er e lq ep ev = record {
       ready = record {
-        sized = d .sized;
+        good = d .good;
         pictured = record {
           E = without c (d .pictured .E);
           u = update (d .pictured .u) c (d .pictured .u c ⊕ x);
@@ -142,7 +142,7 @@ pub record Peels (L : Layout) (sum tally sum' tally' place' value' : List ℕ) (
 
 -- what `peel` requires
 pub record Peelable (n t : ℕ) (shifts sum tally queue place value : List ℕ) : Type 0 where
-  pub sized : GoodPlan n t shifts
+  pub good : GoodPlan n t shifts
   pub pictured : Pictured (layout n t shifts) sum tally
   pub queue-long : length queue ≡ 2 * t
   pub place-long : length place ≡ 2 * t
@@ -151,12 +151,12 @@ pub record Peelable (n t : ℕ) (shifts sum tally queue place value : List ℕ) 
 pub peelable-seed : {n t : ℕ} {shifts sum tally queue place value : List ℕ} → Peelable n t shifts sum tally queue place value
     → (t ≤ maxT) × (length tally ≡ 2 * t) × (length queue ≡ 2 * t)
 unfolding layout
-peelable-seed d = (d .sized .t-max, d .pictured .picture .counted .long, d .queue-long)
+peelable-seed d = (d .good .t-max, d .pictured .picture .counted .long, d .queue-long)
 
 pub peelable-ready : {n t : ℕ} {shifts sum tally queue place value queue' : List ℕ} {tail : ℕ} → Peelable n t shifts sum tally queue place value
     → Queued tally queue' (2 * t) 0 tail → length queue' ≡ length queue → Ready n t shifts sum tally queue' place value 0 tail 0
 peelable-ready d q l = record {
-  sized = d .sized;
+  good = d .good;
   pictured = d .pictured;
   queued = q;
   counted = omega arith;
@@ -190,7 +190,7 @@ ready-long d p =
 pub peeling-less : {n t : ℕ} {shifts sum₀ tally₀ sum tally queue place value : List ℕ} {head tail count : ℕ}
     → Peeling n t shifts sum₀ tally₀ sum tally queue place value head tail count → head < tail
     → (head < 2 * maxT) × (2 * t - (head + 1) < 2 * t - head)
-peeling-less p h = (omega (arith, full (p .ready .queued), p .ready .sized .t-max), omega (arith, full (p .ready .queued)))
+peeling-less p h = (omega (arith, full (p .ready .queued), p .ready .good .t-max), omega (arith, full (p .ready .queued)))
 
 pub peeling-step : {n t : ℕ} {shifts sum₀ tally₀ sum tally queue place value : List ℕ} {head tail count : ℕ}
     {sum' tally' queue' place' value' : List ℕ} {tail' count' : ℕ}
@@ -214,6 +214,6 @@ peeling-end p h = record {
         x = y .x;
         picture = y .picture;
         settles = y .settles;
-        stuck = λ r l e. emptied (p .ready .queued) h r l (tally-counts (p .ready .sized) (y .picture .counted) l ∙ e);
+        stuck = λ r l e. emptied (p .ready .queued) h r l (tally-counts (p .ready .good) (y .picture .counted) l ∙ e);
       };
 }

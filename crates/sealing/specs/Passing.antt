@@ -1,5 +1,5 @@
 -- What refuses a call, what one that passes gives, and how each answer keeps its promise.
--- Main results: checks-stop, checks-lent; pass-sized, pass-long; encoded, read, crossed.
+-- Main results: checks-stop, checks-lent; pass-plan, pass-long; encoded, read, crossed.
 use mathlib.Core.Path.{_≡_, sym, _∙_}
 use mathlib.Core.Bool.{Bool}
 use mathlib.Core.List.{List, [], map}
@@ -44,8 +44,8 @@ module _ (p : Plan) (d v : List ℕ) where
       record { answer = call-lent p (messageLent d v) [] count e g f (part-same (messageLent d v .message) (c ∙ total-count r)); of = λ _. r }
 
 module _ (p : Plan) (d v : List ℕ) (pass : checkOf p (messageLent d v) [] ≡ Pass) where
-  pub pass-sized : GoodPlan (p .n) (p .t) (p .shifts)
-  pass-sized = good-bounds p (pass-good p (messageLent d v) [] pass)
+  pub pass-plan : GoodPlan (p .n) (p .t) (p .shifts)
+  pass-plan = good-bounds p (pass-good p (messageLent d v) [] pass)
 
   pub pass-long : (length v ≡ p .n * p .t) × (length d ≡ messageCount (layout (p .n) (p .t) (p .shifts)))
   unfolding layoutOf layout

@@ -20,7 +20,7 @@ use Rattle.code.specs.Checks.{update}
 use Rattle.code.specs.Laws.Basics.{places-∈, meets-true, top≢bottom, meets-row}
 use Rattle.tables.specs.Picture.{tallyUnit, weight, counts, Picture, Pictured}
 use Rattle.tables.specs.PictureLaws.{Touched, length-onRow-without, picture-less}
-use Rattle.tables.specs.Sizes.{sized-∈}
+use Rattle.tables.specs.Sizes.{good-∈}
 use Rattle.tables.specs.Bounds.{tally-counts, tally-some}
 use Rattle.tables.specs.StuckLaws.{onRow-some}
 use Rattle.tables.specs.Beside.{Beside, beside-place, beside-sides}
@@ -64,7 +64,7 @@ module _ {sum tally : List ℕ} {a b v : ℕ} (h : Rows sum tally a b v) where
 
 -- row r has one erasure left
 pub record One (n t : ℕ) (shifts sum tally : List ℕ) (r : ℕ) : Type 0 where
-  pub sized : GoodPlan n t shifts
+  pub good : GoodPlan n t shifts
   pub pictured : Pictured (layout n t shifts) sum tally
   pub row : r < 2 * t
   pub left-one : counts tally r ≡ 1
@@ -85,7 +85,7 @@ module _ {n t : ℕ} {shifts sum tally : List ℕ} {r : ℕ} (o : One n t shifts
   -- the one erasure of the row, for whatever block the tables picture
   only-one : {E : List ℕ} {u : ℕ → ℕ} → Picture (layout n t shifts) E u sum tally → (c : ℕ) × Single (layout n t shifts) E r (getD tally r 0) c
   unfolding layout
-  only-one p = single (layout n t shifts) (p .counted) (o .row) (sym (tally-counts (o .sized) (p .counted) (o .row)) ∙ o .left-one)
+  only-one p = single (layout n t shifts) (p .counted) (o .row) (sym (tally-counts (o .good) (p .counted) (o .row)) ∙ o .left-one)
 
   -- the tally says its section
   its-section : {E : List ℕ} {u : ℕ → ℕ} (p : Picture (layout n t shifts) E u sum tally)
@@ -94,14 +94,14 @@ module _ {n t : ℕ} {shifts sum tally : List ℕ} {r : ℕ} (o : One n t shifts
   its-section p =
       let s = only-one p .1 in
       let i : only-one p .0 / t < n = upTo-∈ n (places-∈ (layout n t shifts) (s .inside) .1) in
-      (i, omega (arith, s .weighs, i, o .sized .n-max))
+      (i, omega (arith, s .weighs, i, o .good .n-max))
 
   pub one-long : (r < length sum) × (r < length tally)
   unfolding layout
   one-long = let p = o .pictured .picture in (omega (arith, o .row, p .sum-long), omega (arith, o .row, p .counted .long))
 
   pub one-few : r < 2 * maxT
-  one-few = omega (arith, o .row, o .sized .t-max)
+  one-few = omega (arith, o .row, o .good .t-max)
 
   pub one-small : (tallyUnit ≤ getD tally r 0) × (getD tally r 0 < 2 * tallyUnit)
   unfolding counts
@@ -113,7 +113,7 @@ module _ {n t : ℕ} {shifts sum tally : List ℕ} {r : ℕ} (o : One n t shifts
     one-shift =
         let i = its-section (o .pictured .picture) in
         let h : j < n = rw (ej ∙ sym (i .1)) (i .0) in
-        (omega (arith, o .sized .long), o .sized .below j h)
+        (omega (arith, o .good .long), o .good .below j h)
 
     -- c is its place on the row, and b the row beside
     module _ {k b : ℕ} (q : Beside t (getD shifts j 0) r k b) where
@@ -121,10 +121,10 @@ module _ {n t : ℕ} {shifts sum tally : List ℕ} {r : ℕ} (o : One n t shifts
       spot {E} p =
           let s = only-one p in
           subst (λ d. Single (layout n t shifts) E r (getD tally r 0) d)
-          (sym (beside-place (o .sized) (s .1 .inside) (s .1 .meet) (its-section p .1 ∙ sym ej) q)) (s .1)
+          (sym (beside-place (o .good) (s .1 .inside) (s .1 .meet) (its-section p .1 ∙ sym ej) q)) (s .1)
 
       pub one-place : j * t + k < maxPlaces
-      one-place = omega (arith, sized-∈ (o .sized) (spot (o .pictured .picture) .inside), o .sized .places-max)
+      one-place = omega (arith, good-∈ (o .good) (spot (o .pictured .picture) .inside), o .good .places-max)
 
       module _ {c : ℕ} (ec : c ≡ j * t + k) where
         alone : {E : List ℕ} {u : ℕ → ℕ} → Picture (layout n t shifts) E u sum tally → Single (layout n t shifts) E r (getD tally r 0) c
@@ -135,9 +135,9 @@ module _ {n t : ℕ} {shifts sum tally : List ℕ} {r : ℕ} (o : One n t shifts
         sides =
             let p = o .pictured .picture in
             let s = only-one p in
-            let e : only-one p .0 ≡ c = sym (ec ∙ beside-place (o .sized) (s .1 .inside) (s .1 .meet) (its-section p .1 ∙ sym ej) q) in
+            let e : only-one p .0 ≡ c = sym (ec ∙ beside-place (o .good) (s .1 .inside) (s .1 .meet) (its-section p .1 ∙ sym ej) q) in
             subst (λ d. ((r ≡ top (layout n t shifts) d) × (b ≡ bottom (layout n t shifts) d)) ⊎ ((r ≡ bottom (layout n t shifts) d) × (b ≡ top (layout n t shifts) d)))
-            e (beside-sides (o .sized) (s .1 .inside) (s .1 .meet) (its-section p .1 ∙ sym ej) q)
+            e (beside-sides (o .good) (s .1 .inside) (s .1 .meet) (its-section p .1 ∙ sym ej) q)
 
         other-meets : Meets (layout n t shifts) c b
         other-meets = ⊎-elim (λ h. inr (h .1)) (λ h. inl (h .1)) sides
@@ -151,15 +151,15 @@ module _ {n t : ℕ} {shifts sum tally : List ℕ} {r : ℕ} (o : One n t shifts
 
         r≢b : r ≢ b
         r≢b e =
-            let n = top≢bottom (layout n t shifts) (plan-valid (o .sized)) c c in
+            let n = top≢bottom (layout n t shifts) (plan-valid (o .good)) c c in
             ⊎-elim (λ h. n (sym (h .0) ∙ e ∙ h .1)) (λ h. n (sym (h .1) ∙ sym e ∙ h .0)) sides
 
         row-b : b < 2 * t
         unfolding layout
-        row-b = meets-row (layout n t shifts) (plan-valid (o .sized)) c other-meets
+        row-b = meets-row (layout n t shifts) (plan-valid (o .good)) c other-meets
 
         pub one-other : b < 2 * maxT
-        one-other = omega (arith, row-b, o .sized .t-max)
+        one-other = omega (arith, row-b, o .good .t-max)
 
         pub one-rows : Rows sum tally r b (getD tally r 0)
         unfolding layout
@@ -170,7 +170,7 @@ module _ {n t : ℕ} {shifts sum tally : List ℕ} {r : ℕ} (o : One n t shifts
               tally-row = one-long .1;
               sum-other = omega (arith, row-b, p .sum-long);
               tally-other = omega (arith, row-b, p .counted .long);
-              some-other = omega (arith, alone p .weighs, tally-some (layout n t shifts) (plan-valid (o .sized)) (p .counted) (alone p .member) other-meets);
+              some-other = omega (arith, alone p .weighs, tally-some (layout n t shifts) (plan-valid (o .good)) (p .counted) (alone p .member) other-meets);
               apart = r≢b;
             }
 
@@ -207,9 +207,9 @@ module _ {n t : ℕ} {shifts sum tally : List ℕ} {r : ℕ} (o : One n t shifts
               let p = o .pictured .picture in
               let s = alone p in
               let a = next-of (o .pictured .E) (o .pictured .u) p .picture in
-              let i : q < 2 * t = meets-row L (plan-valid (o .sized)) c h in
-              let old = tally-counts (o .sized) (p .counted) i in
-              let new = tally-counts (o .sized) (a .counted) i in
+              let i : q < 2 * t = meets-row L (plan-valid (o .good)) c h in
+              let old = tally-counts (o .good) (p .counted) i in
+              let new = tally-counts (o .good) (a .counted) i in
               let less = length-onRow-without L (o .pictured .E) c q (rising-distinct (p .counted .erased .rising)) (s .member) in
               (omega (arith, old, onRow-some L (s .member) h), omega (arith, old, new, less, only-true 1 (meets-true L c h)))
 

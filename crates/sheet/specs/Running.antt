@@ -11,7 +11,7 @@ use Rattle.commands.specs.declared.Command.{Command}
 use Rattle.commands.specs.declared.Parsed.the-variants as front
 use Rattle.lines.specs.Lines.{lineLength}
 use Rattle.state.specs.State.{State}
-use Rattle.state.specs.Refusals.{refusalOf}
+use Rattle.state.specs.Refusing.{refusalOf}
 use Rattle.act.specs.Meaning.{Means}
 use Rattle.act.specs.Acts.{stateOf, Kept}
 use Rattle.act.specs.declared.Held.{Held}

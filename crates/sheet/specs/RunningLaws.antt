@@ -21,7 +21,7 @@ use Rattle.commands.specs.declared.Parsed.the-variants.{Whole}
 use Rattle.pieces.specs.Pieces.{Appends}
 use Rattle.lines.specs.Lines.{lineLength}
 use Rattle.state.specs.State.{State}
-use Rattle.state.specs.Refusals.{refusalOf}
+use Rattle.state.specs.Refusing.{refusalOf}
 use Rattle.act.specs.Acts.{blockLength, marksLength, stateOf, Kept, Acts}
 use Rattle.act.specs.declared.Held.{Held}
 use Rattle.turns.specs.Sheets.{start}

@@ -1,4 +1,4 @@
 -- The state of a job, what refuses a command on it, and the laws of the functions on its buffers.
 pub mod State
-pub mod Refusals
-pub mod RefusalLaws
+pub mod Refusing
+pub mod RefusingLaws

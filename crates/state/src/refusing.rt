@@ -8,7 +8,7 @@ ghost use Rattle.refusals.specs.declared.Check.the-variants as check;
 ghost use Rattle.refusals.specs.declared.Refusal.the-variants as refusals;
 ghost use Rattle.plan.specs.Plans.{blankOf, straightOf, powersOf, rulerOf};
 ghost use Rattle.state.specs.State.{State};
-ghost use Rattle.state.specs.Refusals.{early, refusalOf};
+ghost use Rattle.state.specs.Refusing.{early, refusalOf};
 use commands::Command;
 use plan::Plan;
 use refusals::Check;

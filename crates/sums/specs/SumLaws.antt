@@ -26,7 +26,7 @@ use Rattle.code.specs.Places.{Meets, meets}
 use Rattle.code.specs.Codewords.{syndrome}
 use Rattle.code.specs.Laws.Basics.{meets-true, true-meets}
 use Rattle.tables.specs.Spots.{Stands, stands-top, stands-bottom}
-use Rattle.tables.specs.Sizes.{sized-places}
+use Rattle.tables.specs.Sizes.{good-places}
 use Rattle.tables.specs.Zeros.{zeros-long}
 use Rattle.tables.specs.Sweeps.{Mapped, PartMapped, withSymbol, part-mapped}
 
@@ -411,7 +411,7 @@ module _ {n t : ℕ} {shifts : List ℕ} (s : GoodPlan n t shifts) where
 
   pub row-sum : (v : ℕ → ℕ) (r : ℕ) → r < 2 * t → syndrome (layout n t shifts) v r ≡ xorOver (upTo n) (λ j. v (j * t + offsetOn t (getD shifts j 0) r))
   unfolding syndrome
-  row-sum v r h = ap (λ y. xorOver y (λ c. only (meets (layout n t shifts) c r) (v c))) (sized-places s) ∙ sums-to v r h n (omega arith)
+  row-sum v r h = ap (λ y. xorOver y (λ c. only (meets (layout n t shifts) c r) (v c))) (good-places s) ∙ sums-to v r h n (omega arith)
 
 -- ---- all sections
 

@@ -22,7 +22,7 @@ use Rattle.plan.specs.GoodPlan.{GoodPlan, plan-valid}
 use Rattle.code.specs.Laws.Forest.{Erased}
 use Rattle.tables.specs.Picture.{Counted, tallyUnit, weight, onRow}
 use Rattle.tables.specs.Spots.{Stands, Reached, reached-stands, stands-top, stands-bottom, stands-weight, stands-inside}
-use Rattle.tables.specs.Sizes.{layout-t, sized-∈}
+use Rattle.tables.specs.Sizes.{layout-t, good-∈}
 use Rattle.tables.specs.PictureLaws.{counted-add}
 use Rattle.tables.specs.Bounds.{tally-room}
 
@@ -98,7 +98,7 @@ All E c e = (d : ℕ) → c ≤ d → d < e → d ∈ E
 
 -- the table tallies places below c of some list that goes on with all places from c to e
 pub record Due (n t : ℕ) (shifts : List ℕ) (c e : ℕ) (tally : List ℕ) : Type 0 where
-  pub sized : GoodPlan n t shifts
+  pub good : GoodPlan n t shifts
   pub E : List ℕ
   pub erased : Erased (layout n t shifts) E
   pub all : All E c e
@@ -186,7 +186,7 @@ seen-skip {n} {t} {shifts} {E} {c} {tally} c' S g h =
 pub seen-all : {n t : ℕ} {shifts E : List ℕ} {c : ℕ} {tally : List ℕ} → GoodPlan n t shifts → Erased (layout n t shifts) E → Seen n t shifts E c tally
     → n * t ≤ c → Counted (layout n t shifts) E tally
 seen-all {n} {t} {shifts} {E} {c} {tally} s er S h =
-    subst (λ F. Counted (layout n t shifts) F tally) (below-all c E (λ d m. omega (arith, sized-∈ s (er .inside d m)))) (S .counted)
+    subst (λ F. Counted (layout n t shifts) F tally) (below-all c E (λ d m. omega (arith, good-∈ s (er .inside d m)))) (S .counted)
 
 -- ---- Due and Notes
 
@@ -209,7 +209,7 @@ pub due-then : {n t : ℕ} {shifts : List ℕ} {c d e : ℕ} {tally tally' : Lis
     → Notes n t shifts c d tally tally' → Due n t shifts d e tally'
 due-then h l D A =
     record {
-      sized = D .sized;
+      good = D .good;
       E = D .E;
       erased = D .erased;
       all = λ x y z. D .all x (omega arith) z;
@@ -217,7 +217,7 @@ due-then h l D A =
     }
 
 pub due-part : {n t : ℕ} {shifts : List ℕ} {c d e : ℕ} {tally : List ℕ} → d ≤ e → Due n t shifts c e tally → Due n t shifts c d tally
-due-part l D = record { sized = D .sized; E = D .E; erased = D .erased; all = λ x y z. D .all x y (omega arith); seen = D .seen }
+due-part l D = record { good = D .good; E = D .E; erased = D .erased; all = λ x y z. D .all x y (omega arith); seen = D .seen }
 
 module _ {n t : ℕ} {shifts : List ℕ} {c e : ℕ} {tally : List ℕ} (D : Due n t shifts c e tally) where
   pub due-long : length tally ≡ 2 * t
@@ -227,7 +227,7 @@ module _ {n t : ℕ} {shifts : List ℕ} {c e : ℕ} {tally : List ℕ} (D : Due
   pub due-inside : c < e → e ≤ n * t
   due-inside h =
       let m : e - 1 ∈ D .E = D .all (e - 1) (omega arith) (omega arith) in
-      omega (arith, sized-∈ (D .sized) (D .erased .inside (e - 1) m))
+      omega (arith, good-∈ (D .good) (D .erased .inside (e - 1) m))
 
   pub due-ready : {j k : ℕ} → c < e → Stands t c j k → Ready t (getD shifts j 0) j k tally
   unfolding layout
@@ -235,11 +235,11 @@ module _ {n t : ℕ} {shifts : List ℕ} {c e : ℕ} {tally : List ℕ} (D : Due
       let i : j < n = stands-inside st n (omega (arith, due-inside h)) in
       record {
         within = st .within;
-        shift = D .sized .below j i;
-        t-max = D .sized .t-max;
-        section = omega (arith, D .sized .n-max);
+        shift = D .good .below j i;
+        t-max = D .good .t-max;
+        section = omega (arith, D .good .n-max);
         long = due-long;
-        room = λ r l. tally-room (D .sized) (D .seen .counted) l;
+        room = λ r l. tally-room (D .good) (D .seen .counted) l;
       }
 
   -- the same at the section that a scan has reached

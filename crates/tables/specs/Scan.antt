@@ -26,14 +26,14 @@ use Rattle.code.specs.Laws.Forest.{Erased}
 use Rattle.code.specs.Laws.MarksLaws.{in-erasures, rising-erasures}
 use Rattle.tables.specs.Picture.{Counted}
 use Rattle.tables.specs.Spots.{Reached, reached-on}
-use Rattle.tables.specs.Sizes.{∈-sized}
+use Rattle.tables.specs.Sizes.{∈-good}
 use Rattle.tables.specs.Counting.{fromPlace, in-from, from-in, Seen, All, Due, Notes, seen-start, seen-at, seen-skip, seen-all}
 use Rattle.bits.specs.Lowest.{zeros-below, first-one, bit-beyond, dropped-low, dropped-high, dropped-less}
 use Rattle.bits.specs.Words.{Clear, Word, word-late, past-last}
 
 -- what is lent for a scan: a plan's numbers, and a mark bit for each place
 pub record Lent (n t : ℕ) (shifts marks : List ℕ) : Type 0 where
-  pub sized : GoodPlan n t shifts
+  pub good : GoodPlan n t shifts
   pub marks-long : length marks ≡ (n * t + 7) / 8
   pub no-spare : NoSpare (layout n t shifts) marks
 
@@ -171,7 +171,7 @@ module _ {n t : ℕ} {shifts marks : List ℕ} {a c rest j begin end p : ℕ} {t
     its-all lent d x y =
         let e : c + trailingZeros 64 rest ≡ d = omega arith in
         let m : mark marks d ≡ 1 = ap (mark marks) (sym e) ∙ its-mark .1 in
-        ∈-noted n t shifts marks a (∈-sized (lent .sized) (marked-inside lent d m)) m (omega (arith, noting-late))
+        ∈-noted n t shifts marks a (∈-good (lent .good) (marked-inside lent d m)) m (omega (arith, noting-late))
 
     its-scanned : Scanned n t shifts marks a (c + trailingZeros 64 rest) tally
     its-scanned =
@@ -181,7 +181,7 @@ module _ {n t : ℕ} {shifts marks : List ℕ} {a c rest j begin end p : ℕ} {t
     pub noting-due : Lent n t shifts marks → Due n t shifts (c + trailingZeros 64 rest) (c + trailingZeros 64 rest + 1) tally
     noting-due lent =
         record {
-          sized = lent .sized;
+          good = lent .good;
           E = toNote n t shifts marks a;
           erased = erased-noted n t shifts marks a;
           all = its-all lent;
@@ -232,4 +232,4 @@ words-end lent i h = omega (arith, lent .marks-long)
 pub scanned-end : {n t : ℕ} {shifts marks : List ℕ} {a c : ℕ} {tally : List ℕ} → Lent n t shifts marks
     → Scanned n t shifts marks a c tally → n * t ≤ c → Counted (layout n t shifts) (fromPlace a (erasures (layout n t shifts) marks)) tally
 unfolding toNote
-scanned-end {n} {t} {shifts} {marks} {a} lent S h = seen-all (lent .sized) (erased-noted n t shifts marks a) (S .seen) h
+scanned-end {n} {t} {shifts} {marks} {a} lent S h = seen-all (lent .good) (erased-noted n t shifts marks a) (S .seen) h

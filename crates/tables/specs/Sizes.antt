@@ -14,12 +14,12 @@ unfolding layout
 layout-t n t shifts = refl
 
 module _ {n t : ℕ} {shifts : List ℕ} (s : GoodPlan n t shifts) where
-  pub sized-places : places (layout n t shifts) ≡ upTo (n * t)
+  pub good-places : places (layout n t shifts) ≡ upTo (n * t)
   unfolding layout
-  sized-places = places-all (layout n t shifts) refl (s .t-min)
+  good-places = places-all (layout n t shifts) refl (s .t-min)
 
-  pub ∈-sized : {c : ℕ} → c < n * t → c ∈ places (layout n t shifts)
-  ∈-sized h = rw sized-places (∈-upTo h)
+  pub ∈-good : {c : ℕ} → c < n * t → c ∈ places (layout n t shifts)
+  ∈-good h = rw good-places (∈-upTo h)
 
-  pub sized-∈ : {c : ℕ} → c ∈ places (layout n t shifts) → c < n * t
-  sized-∈ m = upTo-∈ (n * t) (rw sized-places at m)
+  pub good-∈ : {c : ℕ} → c ∈ places (layout n t shifts) → c < n * t
+  good-∈ m = upTo-∈ (n * t) (rw good-places at m)

@@ -17,7 +17,7 @@ use Rattle.code.specs.Laws.MarksLaws.{bit-not}
 use Rattle.bits.specs.Lowest.{bit-beyond}
 use Rattle.bits.specs.Words.{Word}
 use Rattle.tables.specs.Picture.{tallyUnit}
-use Rattle.tables.specs.Sizes.{∈-sized}
+use Rattle.tables.specs.Sizes.{∈-good}
 use Rattle.tables.specs.Sweeps.{Apart, Room, Swept, swept-none, swept-more, swept-same}
 use Rattle.tables.specs.Spots.{Stands, Reached, bottom-low, bottom-high}
 use Rattle.tables.specs.Counting.{All, Due, Notes, Ready, Noted, noted, due-here, due-long, notes-none, notes-at, notes-then, noted-notes}
@@ -106,7 +106,7 @@ module _ {n t : ℕ} {shifts : List ℕ} {c j begin end p m : ℕ} {tally : List
       record {
         tally' = tally₂;
         swept = swept-more tally₁ tally₂ (O .swept) high (low (due-long D)) refl refl;
-        notes = notes-at (omega arith) (notes-then (omega arith) (omega arith) (O .notes) (noted-notes (D .sized) st note));
+        notes = notes-at (omega arith) (notes-then (omega arith) (omega arith) (O .notes) (noted-notes (D .good) st note));
       }
     where
       A : Apart (c - begin) (bottomRow t p (c - begin)) m (2 * t)
@@ -157,10 +157,10 @@ module _ {n t : ℕ} {shifts marks : List ℕ} {a c w : ℕ} {tally : List ℕ} 
       let q : c + (d - c) ≡ d = omega arith in
       let o = bit (d - c) (omega arith) in
       let m : mark marks d ≡ 1 = ap (mark marks) (sym q) ∙ o .1 in
-      ∈-noted n t shifts marks a (∈-sized (lent .sized) (marked-inside lent d m)) m (omega (arith, leb-true a (c + (d - c)) (o .0)))
+      ∈-noted n t shifts marks a (∈-good (lent .good) (marked-inside lent d m)) m (omega (arith, leb-true a (c + (d - c)) (o .0)))
 
   pub ones-due : Due n t shifts c (c + 64) tally
-  ones-due = record { sized = lent .sized; E = toNote n t shifts marks a; erased = erased-noted n t shifts marks a; all = ones-all; seen = S .seen }
+  ones-due = record { good = lent .good; E = toNote n t shifts marks a; erased = erased-noted n t shifts marks a; all = ones-all; seen = S .seen }
 
   pub ones-noted : {tally' : List ℕ} → Notes n t shifts c (c + 64) tally tally' → Scanned n t shifts marks a (c + 64) tally'
   ones-noted N = scanned-notes S ones-all N

@@ -12,7 +12,7 @@ use Rattle.plan.specs.Plans.{noPlan}
 use Rattle.commands.specs.Commands.{sizeOf, parsed, parsedCheck}
 use Rattle.lines.specs.Lines.{line, refusedWord, endWord}
 use Rattle.state.specs.State.{State}
-use Rattle.state.specs.Refusals.{refusalOf}
+use Rattle.state.specs.Refusing.{refusalOf}
 use Rattle.act.specs.Meaning.{Means}
 use Rattle.commands.specs.declared.Command.{Command}
 use Rattle.commands.specs.declared.Parsed.the-variants.{Whole, Unknown, Short}

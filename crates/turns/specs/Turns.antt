@@ -16,7 +16,7 @@ use Rattle.commands.specs.Commands.{sizeOf, parsed, parsedCheck}
 use Rattle.commands.specs.declared.Command.{Command}
 use Rattle.commands.specs.declared.Parsed.the-variants.{Whole, Unknown, Short, Nothing}
 use Rattle.lines.specs.Lines.{line, endWord, Wrote}
-use Rattle.state.specs.Refusals.{refusalOf}
+use Rattle.state.specs.Refusing.{refusalOf}
 use Rattle.act.specs.Acts.{stateOf, Acts}
 use Rattle.act.specs.declared.Held.{Held}
 use Rattle.turns.specs.Sheets.{refusedLine}

@@ -15,7 +15,7 @@ use Rattle.commands.specs.declared.Command.{Command}
 use Rattle.commands.specs.declared.Parsed.{Parsed}
 use Rattle.commands.specs.declared.Parsed.the-variants.{Whole, Unknown, Short, Nothing}
 use Rattle.lines.specs.Lines.{Wrote}
-use Rattle.state.specs.Refusals.{refusalOf}
+use Rattle.state.specs.Refusing.{refusalOf}
 use Rattle.act.specs.Acts.{stateOf, Kept}
 use Rattle.act.specs.ActsOnce.{parts-same, acts-once}
 use Rattle.act.specs.declared.Held.{Held}

@@ -26,7 +26,7 @@ use Rattle.pieces.specs.Pieces.{fields, decimal, widthFrom}
 use Rattle.lines.specs.Lines.{line, recoveredWord, looseWord, crossedWord, symbolWord, endWord}
 use Rattle.bits.specs.Bits.{Marked}
 use Rattle.state.specs.State.{State, fresh, withPlan, withBlock}
-use Rattle.state.specs.Refusals.{early, refusalOf}
+use Rattle.state.specs.Refusing.{early, refusalOf}
 use Rattle.bits.specs.MarkedLaws.{Bytes, marked-set, marked-clear}
 use Rattle.act.specs.Meaning.{Recovering, Means}
 use Rattle.turns.specs.Sheets as sheets

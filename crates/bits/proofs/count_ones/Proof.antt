@@ -5,11 +5,8 @@ use Rattle.bits.specs.Stretches.{count-all}
 use Rattle.bits.proofs.count_ones.Statement.{statement}
 use Rattle.bits.proofs.count_ones.Tie as tie
 
-ones-in-requires : tie.Need-ones-in-requires
-ones-in-requires c κs = search needs
-
 returns : tie.Need-returns
 returns c = c .ones-in .ensures .0 ∙ count-all _ (λ i. c .before .shared-slice-known .given i .fits)
 
 pub count-ones-spec : {M : Type 1} → statement M
-count-ones-spec = tie.close (tie.spec ones-in-requires returns)
+count-ones-spec = tie.close (tie.spec (λ c κs. search needs) returns)

@@ -10,32 +10,8 @@ use Rattle.bits.proofs.none_from.Tie as tie
 returns : tie.Need-returns
 returns c = sym (none-past _ _ (omega arith))
 
-shared-slice-read-if2 : tie.Need-shared-slice-read-if2
-shared-slice-read-if2 c = search needs
-
-cast-if2 : tie.Need-cast-if2
-cast-if2 c = search needs
-
-shr-if2 : tie.Need-shr-if2
-shr-if2 c = search needs
-
 returns-2 : tie.Need-returns-2
 returns-2 c = none-set _ _ (c .before .before .if1 .left) (c .before .shared-slice-known2 .given _ .fits) (c .if2 .taken)
-
-add-next : tie.Need-add-next
-add-next c = search needs
-
-sub-zero-bytes : tie.Need-sub-zero-bytes
-sub-zero-bytes c = search needs
-
-part-zero-bytes-start : tie.Need-part-zero-bytes-start
-part-zero-bytes-start c = search needs
-
-part-zero-bytes-end : tie.Need-part-zero-bytes-end
-part-zero-bytes-end c = search needs
-
-zero-bytes-requires : tie.Need-zero-bytes-requires
-zero-bytes-requires c κs = search needs
 
 returns-3 : tie.Need-returns-3
 returns-3 c =
@@ -49,13 +25,13 @@ none-from-spec =
     tie.close
     (tie.spec
     returns
-    shared-slice-read-if2
-    cast-if2
-    shr-if2
+    (λ c. search needs)
+    (λ c. search needs)
+    (λ c. search needs)
     returns-2
-    add-next
-    sub-zero-bytes
-    part-zero-bytes-start
-    part-zero-bytes-end
-    zero-bytes-requires
+    (λ c. search needs)
+    (λ c. search needs)
+    (λ c. search needs)
+    (λ c. search needs)
+    (λ c κs. search needs)
     returns-3)

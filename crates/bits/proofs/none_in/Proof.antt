@@ -6,37 +6,13 @@ use Rattle.bits.specs.Stretches.{none-first, none-middle, none-last}
 use Rattle.bits.proofs.none_in.Statement.{statement}
 use Rattle.bits.proofs.none_in.Tie as tie
 
-cut-of-requires : tie.Need-cut-of-requires
-cut-of-requires c κs = search needs
-
-add-end : tie.Need-add-end
-add-end c = search needs
-
-part-requires : tie.Need-part-requires
-part-requires c κs = search needs
-
 returns : tie.Need-returns
 returns c = none-first (c .before .before .before .cut-of .ensures) _ (c .before .part .ensures) refl (c .if1 .taken)
-
-sub-zero-bytes : tie.Need-sub-zero-bytes
-sub-zero-bytes c = search needs
-
-part-zero-bytes-start : tie.Need-part-zero-bytes-start
-part-zero-bytes-start c = search needs
-
-part-zero-bytes-end : tie.Need-part-zero-bytes-end
-part-zero-bytes-end c = search needs
-
-zero-bytes-requires : tie.Need-zero-bytes-requires
-zero-bytes-requires c κs = search needs
 
 returns-2 : tie.Need-returns-2
 returns-2 c =
     let s = c .before .before .before .before .before .before in
     none-middle (s .cut-of .ensures) _ (c .before .before .before .before .part .ensures) refl (s .before .before .pre) (λ j. s .before .shared-slice-known .given j .fits) (c .before .zero-bytes .ensures) (not-true _ (c .if2 .taken))
-
-part-requires-2 : tie.Need-part-requires-2
-part-requires-2 c κs = search needs
 
 returns-3 : tie.Need-returns-3
 returns-3 c =
@@ -47,14 +23,14 @@ pub none-in-spec : {M : Type 1} → statement M
 none-in-spec =
     tie.close
     (tie.spec
-    cut-of-requires
-    add-end
-    part-requires
+    (λ c κs. search needs)
+    (λ c. search needs)
+    (λ c κs. search needs)
     returns
-    sub-zero-bytes
-    part-zero-bytes-start
-    part-zero-bytes-end
-    zero-bytes-requires
+    (λ c. search needs)
+    (λ c. search needs)
+    (λ c. search needs)
+    (λ c κs. search needs)
     returns-2
-    part-requires-2
+    (λ c κs. search needs)
     returns-3)

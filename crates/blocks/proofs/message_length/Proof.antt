@@ -5,9 +5,6 @@ use borrow.Author.Needs.{needs}
 use Rattle.blocks.proofs.message_length.Statement.{statement}
 use Rattle.blocks.proofs.message_length.Tie as tie
 
-slice-aggregate-message-places : tie.Need-slice-aggregate-message-places
-slice-aggregate-message-places c = search needs
-
 message-places-requires : tie.Need-message-places-requires
 message-places-requires c κs = good-bounds _ (c .before .before .pre)
 
@@ -17,4 +14,4 @@ returns c = c .message-places .ensures
 
 pub message-length-spec : {M : Type 1} → statement M
 message-length-spec =
-    tie.close (tie.spec slice-aggregate-message-places message-places-requires returns)
+    tie.close (tie.spec (λ c. search needs) message-places-requires returns)

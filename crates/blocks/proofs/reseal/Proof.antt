@@ -12,17 +12,8 @@ use borrow.Author.Needs.{needs}
 use Rattle.blocks.proofs.reseal.Statement.{statement}
 use Rattle.blocks.proofs.reseal.Tie as tie
 
-slice-aggregate-runs : tie.Need-slice-aggregate-runs
-slice-aggregate-runs c = search needs
-
-slice-aggregate-runs-2 : tie.Need-slice-aggregate-runs-2
-slice-aggregate-runs-2 c = search needs
-
 runs-requires : tie.Need-runs-requires
 runs-requires c κs = (good-bounds _ (c .before .before .before .before .pre .0), refl)
-
-slice-aggregate-gather : tie.Need-slice-aggregate-gather
-slice-aggregate-gather c = search needs
 
 array-borrow-prefix-message : tie.Need-array-borrow-prefix-message
 array-borrow-prefix-message c = omega (arith, c .before .before .before .before .before .before .before .before .pre .2, count-most _ (c .before .before .before .before .before .before .before .before .pre .0))
@@ -42,9 +33,6 @@ array-share-prefix-message c = back-room (c .before .gather .last .1 .1 .1 .1 .0
 slice-aggregate-encode : tie.Need-slice-aggregate-encode
 slice-aggregate-encode c = back-front (c .before .before .gather .last .1 .1 .1 .1 .0) _ 32768 (omega (arith, c .before .before .before .before .before .before .before .before .before .before .before .before .pre .2, count-most _ (c .before .before .before .before .before .before .before .before .before .before .before .before .pre .0))) (c .before .before .gather .kept .1 .1 .1 .1 .0)
 
-encode-requires : tie.Need-encode-requires
-encode-requires c κs = search needs
-
 same-length : tie.Need-same-length
 same-length c = c .before .before .encode .kept .1 .1 .0
 
@@ -62,15 +50,15 @@ pub reseal-spec : {M : Type 1} → statement M
 reseal-spec =
     tie.close
     (tie.spec
-    slice-aggregate-runs
-    slice-aggregate-runs-2
+    (λ c. search needs)
+    (λ c. search needs)
     runs-requires
-    slice-aggregate-gather
+    (λ c. search needs)
     array-borrow-prefix-message
     slice-aggregate-gather-2
     gather-requires
     array-share-prefix-message
     slice-aggregate-encode
-    encode-requires
+    (λ c κs. search needs)
     same-length
     returns)

@@ -32,17 +32,8 @@ slice-relend-prefix-clear-bytes c = let p = c .before .before .before .before .b
 slice-aggregate-clear-bytes : tie.Need-slice-aggregate-clear-bytes
 slice-aggregate-clear-bytes c = let p = c .before .before .before .before .before .before .before .before .before .before .before .pre in front-long _ (c .before .before .before .before .before .before .before .before .before .before .before .args .marks .now) (bytes-fit _ (p .0 .good (p .2)) (c .before .before .before .before .before .before .before .before .before .before .before .args .marks .now) (p .0 .marks-long))
 
-clear-bytes-requires : tie.Need-clear-bytes-requires
-clear-bytes-requires c κs = search needs
-
 sealed-line-requires : tie.Need-sealed-line-requires
 sealed-line-requires c κs = omega (arith, c .before .before .before .before .before .before .before .before .before .before .before .before .before .before .before .pre .1)
-
-same-length : tie.Need-same-length
-same-length c = search needs
-
-same-length-2 : tie.Need-same-length-2
-same-length-2 c = search needs
 
 same-length-3 : tie.Need-same-length-3
 same-length-3 c = c .before .before .sealed-line .kept .0
@@ -56,4 +47,4 @@ returns c =
     )
 
 pub seal-state-spec : {M : Type 1} → statement M
-seal-state-spec = tie.close (tie.spec mul-places add-bytes message-length-requires slice-relend-prefix-reseal slice-aggregate-reseal reseal-requires slice-relend-prefix-clear-bytes slice-aggregate-clear-bytes clear-bytes-requires sealed-line-requires same-length same-length-2 same-length-3 returns)
+seal-state-spec = tie.close (tie.spec mul-places add-bytes message-length-requires slice-relend-prefix-reseal slice-aggregate-reseal reseal-requires slice-relend-prefix-clear-bytes slice-aggregate-clear-bytes (λ c κs. search needs) sealed-line-requires (λ c. search needs) (λ c. search needs) same-length-3 returns)

@@ -7,17 +7,8 @@ use borrow.Author.Needs.{needs}
 use Rattle.blocks.proofs.tell_figures.Statement.{statement}
 use Rattle.blocks.proofs.tell_figures.Tie as tie
 
-slice-aggregate-of-good : tie.Need-slice-aggregate-of-good
-slice-aggregate-of-good c = search needs
-
 of-good-requires : tie.Need-of-good-requires
 of-good-requires c κs = good-bounds _ (c .before .before .before .before .pre .1)
-
-figures-line-requires : tie.Need-figures-line-requires
-figures-line-requires c κs = search needs
-
-same-length : tie.Need-same-length
-same-length c = search needs
 
 returns : tie.Need-returns
 unfolding layoutOf
@@ -28,4 +19,4 @@ returns c =
 pub tell-figures-spec : {M : Type 1} → statement M
 tell-figures-spec =
     tie.close
-    (tie.spec slice-aggregate-of-good of-good-requires figures-line-requires same-length returns)
+    (tie.spec (λ c. search needs) of-good-requires (λ c κs. search needs) (λ c. search needs) returns)

@@ -9,18 +9,6 @@ use borrow.Author.Needs.{needs}
 use Rattle.calls.proofs.check_call.Statement.{statement}
 use Rattle.calls.proofs.check_call.Tie as tie
 
-check-requires : tie.Need-check-requires
-check-requires c κs = search needs
-
-enum-known-x : tie.Need-enum-known-x
-enum-known-x c = search needs
-
-enum-told : tie.Need-enum-told
-enum-told c = search needs
-
-slice-aggregate-message-length : tie.Need-slice-aggregate-message-length
-slice-aggregate-message-length c = search needs
-
 message-length-requires : tie.Need-message-length-requires
 message-length-requires c κs = good-bounds _ (sym (c .before .before .before .check .ensures) ∙ c .before .enum-told .given .1)
 
@@ -45,10 +33,10 @@ pub check-call-spec : {M : Type 1} → statement M
 check-call-spec =
     tie.close
     (tie.spec
-    check-requires
-    enum-known-x
-    enum-told
-    slice-aggregate-message-length
+    (λ c κs. search needs)
+    (λ c. search needs)
+    (λ c. search needs)
+    (λ c. search needs)
     message-length-requires
     lengths-fit-requires
     mul-check-lent

@@ -9,9 +9,6 @@ use Rattle.calls.proofs.check_lent.Tie as tie
 returns : tie.Need-returns
 returns c = lent-length _ _ _ (not-true _ (c .if1 .taken))
 
-spare-clear-requires : tie.Need-spare-clear-requires
-spare-clear-requires c κs = search needs
-
 returns-2 : tie.Need-returns-2
 returns-2 c = lent-spare _ _ _ (not-false _ (c .before .before .if1 .left)) (failed _ (c .before .spare-clear .ensures) (c .if2 .taken))
 
@@ -19,4 +16,4 @@ returns-3 : tie.Need-returns-3
 returns-3 c = lent-pass _ _ _ (not-false _ (c .before .before .if1 .left)) (passed _ (c .before .spare-clear .ensures) (c .if2 .left))
 
 pub check-lent-spec : {M : Type 1} → statement M
-check-lent-spec = tie.close (tie.spec returns spare-clear-requires returns-2 returns-3)
+check-lent-spec = tie.close (tie.spec returns (λ c κs. search needs) returns-2 returns-3)

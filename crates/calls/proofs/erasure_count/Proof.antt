@@ -8,18 +8,9 @@ use borrow.Author.Needs.{needs}
 use Rattle.calls.proofs.erasure_count.Statement.{statement}
 use Rattle.calls.proofs.erasure_count.Tie as tie
 
-check-call-requires : tie.Need-check-call-requires
-check-call-requires c κs = search needs
-
-enum-told : tie.Need-enum-told
-enum-told c = search needs
-
 count-ones-requires : tie.Need-count-ones-requires
 unfolding countLent
 count-ones-requires c κs = count-most _ (c .before .before .before .before .args .marks .now) (sym (c .before .before .check-call .ensures) ∙ c .enum-told .given .1)
-
-enum-known-x : tie.Need-enum-known-x
-enum-known-x c = search needs
 
 returns : tie.Need-returns
 unfolding countLent
@@ -36,4 +27,4 @@ returns-2 c =
 pub erasure-count-spec : {M : Type 1} → statement M
 erasure-count-spec =
     tie.close
-    (tie.spec check-call-requires enum-told count-ones-requires enum-known-x returns returns-2)
+    (tie.spec (λ c κs. search needs) (λ c. search needs) count-ones-requires (λ c. search needs) returns returns-2)

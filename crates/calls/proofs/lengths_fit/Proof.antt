@@ -6,35 +6,14 @@ use borrow.Author.Needs.{needs}
 use Rattle.calls.proofs.lengths_fit.Statement.{statement}
 use Rattle.calls.proofs.lengths_fit.Tie as tie
 
-mul-places : tie.Need-mul-places
-mul-places c = search needs
-
-part-fits-requires : tie.Need-part-fits-requires
-part-fits-requires c κs = search needs
-
 returns : tie.Need-returns
 returns c = block-off _ _ _ _ (failed _ (c .before .part-fits .ensures) (c .if1 .taken))
-
-add-part-fits : tie.Need-add-part-fits
-add-part-fits c = search needs
-
-part-fits-requires-2 : tie.Need-part-fits-requires-2
-part-fits-requires-2 c κs = search needs
 
 returns-2 : tie.Need-returns-2
 returns-2 c = marks-off _ _ _ _ (passed _ (c .before .before .before .part-fits .ensures) (c .before .before .if1 .left)) (failed _ (c .before .part-fits2 .ensures) (c .if2 .taken))
 
-mul-part-fits : tie.Need-mul-part-fits
-mul-part-fits c = search needs
-
-part-fits-requires-3 : tie.Need-part-fits-requires-3
-part-fits-requires-3 c κs = search needs
-
 returns-3 : tie.Need-returns-3
 returns-3 c = witness-off _ _ _ _ (passed _ (c .before .before .before .before .before .part-fits .ensures) (c .before .before .before .before .if1 .left)) (passed _ (c .before .before .before .part-fits2 .ensures) (c .before .before .if2 .left)) (failed _ (c .before .part-fits3 .ensures) (c .if3 .taken))
-
-part-fits-requires-4 : tie.Need-part-fits-requires-4
-part-fits-requires-4 c κs = search needs
 
 returns-4 : tie.Need-returns-4
 returns-4 c =
@@ -45,14 +24,14 @@ pub lengths-fit-spec : {M : Type 1} → statement M
 lengths-fit-spec =
     tie.close
     (tie.spec
-    mul-places
-    part-fits-requires
+    (λ c. search needs)
+    (λ c κs. search needs)
     returns
-    add-part-fits
-    part-fits-requires-2
+    (λ c. search needs)
+    (λ c κs. search needs)
     returns-2
-    mul-part-fits
-    part-fits-requires-3
+    (λ c. search needs)
+    (λ c κs. search needs)
     returns-3
-    part-fits-requires-4
+    (λ c κs. search needs)
     returns-4)

@@ -4,17 +4,8 @@ use borrow.Author.Needs.{needs}
 use Rattle.calls.proofs.part_fits.Statement.{statement}
 use Rattle.calls.proofs.part_fits.Tie as tie
 
-enum-told : tie.Need-enum-told
-enum-told c = search needs
-
-enum-known-part : tie.Need-enum-known-part
-enum-known-part c = search needs
-
-returns : tie.Need-returns
-returns c = search needs
-
 returns-2 : tie.Need-returns-2
 returns-2 c = part-of _ _ _ (c .before .part .given .1)
 
 pub part-fits-spec : {M : Type 1} → statement M
-part-fits-spec = tie.close (tie.spec enum-told enum-known-part returns returns-2)
+part-fits-spec = tie.close (tie.spec (λ c. search needs) (λ c. search needs) (λ c. search needs) returns-2)

@@ -8,17 +8,11 @@ use borrow.Author.Needs.{needs}
 use Rattle.calls.proofs.spare_clear.Statement.{statement}
 use Rattle.calls.proofs.spare_clear.Tie as tie
 
-add-bytes : tie.Need-add-bytes
-add-bytes c = search needs
-
 returns : tie.Need-returns
 returns c = spare-past _ _ (omega arith)
 
 slice-aggregate-none-from : tie.Need-slice-aggregate-none-from
 slice-aggregate-none-from c = sym (length-take-le _ _ (omega arith))
-
-none-from-requires : tie.Need-none-from-requires
-none-from-requires c κs = search needs
 
 returns-2 : tie.Need-returns-2
 unfolding spareClear
@@ -26,4 +20,4 @@ returns-2 c = c .none-from .ensures
 
 pub spare-clear-spec : {M : Type 1} → statement M
 spare-clear-spec =
-    tie.close (tie.spec add-bytes returns slice-aggregate-none-from none-from-requires returns-2)
+    tie.close (tie.spec (λ c. search needs) returns slice-aggregate-none-from (λ c κs. search needs) returns-2)

@@ -5,14 +5,8 @@ use Rattle.numbers.specs.Entries.{numbered}
 use Rattle.capi.proofs.fumizhaki_plan_of.Statement.{statement}
 use Rattle.capi.proofs.fumizhaki_plan_of.Tie as tie
 
-of-requires : tie.Need-of-requires
-of-requires c κs = search needs
-
-number-made-requires : tie.Need-number-made-requires
-number-made-requires c κs = search needs
-
 returns : tie.Need-returns
 returns c = c .number-made .ensures ∙ ap numbered (c .before .of .ensures)
 
 pub fumizhaki-plan-of-spec : {M : Type 1} → statement M
-fumizhaki-plan-of-spec = tie.close (tie.spec of-requires number-made-requires returns)
+fumizhaki-plan-of-spec = tie.close (tie.spec (λ c κs. search needs) (λ c κs. search needs) returns)

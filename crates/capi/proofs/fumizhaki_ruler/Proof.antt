@@ -5,14 +5,8 @@ use Rattle.numbers.specs.Entries.{numbered}
 use Rattle.capi.proofs.fumizhaki_ruler.Statement.{statement}
 use Rattle.capi.proofs.fumizhaki_ruler.Tie as tie
 
-ruler-requires : tie.Need-ruler-requires
-ruler-requires c κs = search needs
-
-number-made-requires : tie.Need-number-made-requires
-number-made-requires c κs = search needs
-
 returns : tie.Need-returns
 returns c = c .number-made .ensures ∙ ap numbered (c .before .ruler .ensures)
 
 pub fumizhaki-ruler-spec : {M : Type 1} → statement M
-fumizhaki-ruler-spec = tie.close (tie.spec ruler-requires number-made-requires returns)
+fumizhaki-ruler-spec = tie.close (tie.spec (λ c κs. search needs) (λ c κs. search needs) returns)

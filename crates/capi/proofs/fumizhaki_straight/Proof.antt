@@ -5,14 +5,8 @@ use Rattle.numbers.specs.Entries.{numbered}
 use Rattle.capi.proofs.fumizhaki_straight.Statement.{statement}
 use Rattle.capi.proofs.fumizhaki_straight.Tie as tie
 
-straight-requires : tie.Need-straight-requires
-straight-requires c κs = search needs
-
-number-made-requires : tie.Need-number-made-requires
-number-made-requires c κs = search needs
-
 returns : tie.Need-returns
 returns c = c .number-made .ensures ∙ ap numbered (c .before .straight .ensures)
 
 pub fumizhaki-straight-spec : {M : Type 1} → statement M
-fumizhaki-straight-spec = tie.close (tie.spec straight-requires number-made-requires returns)
+fumizhaki-straight-spec = tie.close (tie.spec (λ c κs. search needs) (λ c κs. search needs) returns)

@@ -4,57 +4,6 @@ use Rattle.commands.specs.CommandLaws.{is-new-plan, is-set-shift, is-set
 use Rattle.commands.proofs.command_of.Statement.{statement}
 use Rattle.commands.proofs.command_of.Tie as tie
 
-byte-requires : tie.Need-byte-requires
-byte-requires c κs = search needs
-
-byte-requires-2 : tie.Need-byte-requires-2
-byte-requires-2 c κs = search needs
-
-pair-requires : tie.Need-pair-requires
-pair-requires c κs = search needs
-
-byte-requires-3 : tie.Need-byte-requires-3
-byte-requires-3 c κs = search needs
-
-pair-requires-2 : tie.Need-pair-requires-2
-pair-requires-2 c κs = search needs
-
-pair-requires-3 : tie.Need-pair-requires-3
-pair-requires-3 c κs = search needs
-
-byte-requires-4 : tie.Need-byte-requires-4
-byte-requires-4 c κs = search needs
-
-pair-requires-4 : tie.Need-pair-requires-4
-pair-requires-4 c κs = search needs
-
-pair-requires-5 : tie.Need-pair-requires-5
-pair-requires-5 c κs = search needs
-
-pair-requires-6 : tie.Need-pair-requires-6
-pair-requires-6 c κs = search needs
-
-pair-requires-7 : tie.Need-pair-requires-7
-pair-requires-7 c κs = search needs
-
-byte-requires-5 : tie.Need-byte-requires-5
-byte-requires-5 c κs = search needs
-
-pair-requires-8 : tie.Need-pair-requires-8
-pair-requires-8 c κs = search needs
-
-byte-requires-6 : tie.Need-byte-requires-6
-byte-requires-6 c κs = search needs
-
-pair-requires-9 : tie.Need-pair-requires-9
-pair-requires-9 c κs = search needs
-
-pair-requires-10 : tie.Need-pair-requires-10
-pair-requires-10 c κs = search needs
-
-byte-requires-7 : tie.Need-byte-requires-7
-byte-requires-7 c κs = search needs
-
 returns : tie.Need-returns
 returns c = is-new-plan _ (c .before .before .before .byte .ensures) (c .before .before .match .keys1) (c .before .byte2 .ensures) (c .pair .ensures)
 
@@ -111,23 +60,23 @@ pub command-of-spec : {M : Type 1} → statement M
 command-of-spec =
     tie.close
     (tie.spec
-    byte-requires
-    byte-requires-2
-    pair-requires
-    byte-requires-3
-    pair-requires-2
-    pair-requires-3
-    byte-requires-4
-    pair-requires-4
-    pair-requires-5
-    pair-requires-6
-    pair-requires-7
-    byte-requires-5
-    pair-requires-8
-    byte-requires-6
-    pair-requires-9
-    pair-requires-10
-    byte-requires-7
+    (λ c κs. search needs)
+    (λ c κs. search needs)
+    (λ c κs. search needs)
+    (λ c κs. search needs)
+    (λ c κs. search needs)
+    (λ c κs. search needs)
+    (λ c κs. search needs)
+    (λ c κs. search needs)
+    (λ c κs. search needs)
+    (λ c κs. search needs)
+    (λ c κs. search needs)
+    (λ c κs. search needs)
+    (λ c κs. search needs)
+    (λ c κs. search needs)
+    (λ c κs. search needs)
+    (λ c κs. search needs)
+    (λ c κs. search needs)
     returns
     returns-2
     returns-3

@@ -7,20 +7,11 @@ use Rattle.commands.proofs.parse.Tie as tie
 returns : tie.Need-returns
 returns c = nothing _ (c .if1 .taken)
 
-shared-slice-read-size-of : tie.Need-shared-slice-read-size-of
-shared-slice-read-size-of c = search needs
-
-size-of-requires : tie.Need-size-of-requires
-size-of-requires c κs = search needs
-
 returns-2 : tie.Need-returns-2
 returns-2 c = unknown (c .before .before .before .before .before .args .bytes .now) (c .before .before .before .if1 .left) (c .before .size-of .ensures) (c .if2 .taken)
 
 returns-3 : tie.Need-returns-3
 returns-3 c = short (c .before .before .before .before .before .before .args .bytes .now) (c .before .before .before .before .if1 .left) (c .before .before .size-of .ensures) (c .before .if2 .left) (c .if3 .taken)
-
-command-of-requires : tie.Need-command-of-requires
-command-of-requires c κs = search needs
 
 returns-4 : tie.Need-returns-4
 returns-4 c = whole (c .before .before .before .before .before .before .before .args .bytes .now) (c .before .before .before .before .before .if1 .left) (c .before .before .before .size-of .ensures) (c .before .before .if2 .left) (c .before .if3 .left) (c .command-of .ensures)
@@ -30,9 +21,9 @@ parse-spec =
     tie.close
     (tie.spec
     returns
-    shared-slice-read-size-of
-    size-of-requires
+    (λ c. search needs)
+    (λ c κs. search needs)
     returns-2
     returns-3
-    command-of-requires
+    (λ c κs. search needs)
     returns-4)

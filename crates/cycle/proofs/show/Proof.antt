@@ -8,15 +8,6 @@ use Rattle.cycle.proofs.show.Tie as tie
 strip-requires : tie.Need-strip-requires
 strip-requires c κs = (c .before .before .before .before .before .before .before .before .before .before .before .before .pre .0, c .before .before .before .before .before .before .before .before .before .before .before .before .pre .1)
 
-cast-first : tie.Need-cast-first
-cast-first c = search needs
-
-div-t24 : tie.Need-div-t24
-div-t24 c = search needs
-
-rem-t25 : tie.Need-rem-t25
-rem-t25 c = search needs
-
 walk-requires : tie.Need-walk-requires
 walk-requires c κs = (walkable (c .before .before .before .before .before .before .before .before .before .before .before .before .before .before .before .before .before .before .before .before .before .before .before .before .before .before .pre .0) (c .before .before .before .before .before .before .before .before .before .before .before .before .before .strip .ensures), c .before .before .before .before .before .before .before .before .before .before .before .before .before .strip .kept .1 .1 .1 .1 .1 .1 .1 .0 ∙ c .before .before .before .before .before .before .before .before .before .before .before .before .before .before .before .before .before .before .before .before .before .before .before .before .before .before .pre .1 .1)
 
@@ -41,4 +32,4 @@ returns c = showing (c .before .before .before .before .before .before .before .
 pub show-spec : {M : Type 1} → statement M
 show-spec =
     tie.close
-    (tie.spec strip-requires cast-first div-t24 rem-t25 walk-requires same-length same-length-2 same-length-3 same-length-4 same-length-5 returns)
+    (tie.spec strip-requires (λ c. search needs) (λ c. search needs) (λ c. search needs) walk-requires same-length same-length-2 same-length-3 same-length-4 same-length-5 returns)

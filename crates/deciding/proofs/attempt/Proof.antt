@@ -11,9 +11,6 @@ note-marks-requires c κs = (c .before .before .before .before .before .before .
 peel-requires : tie.Need-peel-requires
 peel-requires c κs = attempt-peels (c .before .before .before .before .before .before .before .before .before .before .before .before .before .before .before .before .before .pre .0) (c .before .before .before .before .before .before .before .before .before .before .before .before .before .before .before .before .before .pre .1) (begins (λ i. c .before .before .before .before .before .before .before .before .before .before .before .before .before .before .before .slice-known .given i .fits) (c .before .before .before .before .before .before .before .before .before .before .before .before .before .before .before .before .before .pre .1 .sums) (c .before .before .before .before .before .before .before .note-marks .ensures))
 
-clean-requires : tie.Need-clean-requires
-clean-requires c κs = search needs
-
 finish-requires : tie.Need-finish-requires
 finish-requires c κs = (given-after (c .before .before .before .before .before .before .before .before .before .before .before .before .before .before .before .before .before .before .before .before .before .before .before .before .before .before .before .before .before .before .before .before .before .before .before .before .before .pre .0) (c .before .before .before .before .before .before .before .before .before .before .before .before .before .before .before .before .before .before .before .peel .kept .1 .1 .1 .1 .1 .0), (attempt-tried (c .before .before .before .before .before .before .before .before .before .before .before .before .before .before .before .before .before .before .before .before .before .before .before .before .before .before .before .before .before .before .before .before .before .before .before .before .before .pre .0) (c .before .before .before .before .before .before .before .before .before .before .before .before .before .before .before .before .before .before .before .before .before .before .before .before .before .before .before .before .before .before .before .before .before .before .before .before .before .pre .1) (begins (λ i. c .before .before .before .before .before .before .before .before .before .before .before .before .before .before .before .before .before .before .before .before .before .before .before .before .before .before .before .before .before .before .before .before .before .before .before .slice-known .given i .fits) (c .before .before .before .before .before .before .before .before .before .before .before .before .before .before .before .before .before .before .before .before .before .before .before .before .before .before .before .before .before .before .before .before .before .before .before .before .before .pre .1 .sums) (c .before .before .before .before .before .before .before .before .before .before .before .before .before .before .before .before .before .before .before .before .before .before .before .before .before .before .before .note-marks .ensures)) (c .before .before .before .before .before .before .before .before .before .before .before .before .before .before .before .before .before .before .before .peel .ensures), c .before .before .before .before .before .before .clean .ensures))
 
@@ -44,7 +41,7 @@ attempt-spec =
     (tie.spec
     note-marks-requires
     peel-requires
-    clean-requires
+    (λ c κs. search needs)
     finish-requires
     same-length
     same-length-2

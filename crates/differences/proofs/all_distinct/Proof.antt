@@ -27,12 +27,6 @@ mark-row-requires c κs = (c .before .before .before .before .pre, c .before .lo
 returns : tie.Need-returns Inv-loop μ-loop
 returns c = rule-breaks (c .before .before .mark-row .ensures) (c .if1 .taken)
 
-add-i : tie.Need-add-i Inv-loop μ-loop
-add-i c = search needs
-
-loop-less : tie.Need-loop-less Inv-loop μ-loop
-loop-less c = search needs
-
 loop-again : tie.Need-loop-again Inv-loop μ-loop
 loop-again c = (
   search needs,
@@ -53,7 +47,7 @@ all-distinct-spec =
     slice-aggregate-mark-row
     mark-row-requires
     returns
-    add-i
-    loop-less
+    (λ c. search needs)
+    (λ c. search needs)
     loop-again
     returns-2)

@@ -31,12 +31,6 @@ returns c =
     let l = c .before .before .before .before .before in
     row-stops _ (c .before .before .before .mark .ensures) (l .before .before .before .before .pre .1) (l .loop-test .taken) (l .before .loop .inv .2) (c .if1 .taken)
 
-add-j : tie.Need-add-j Inv-loop μ-loop
-add-j c = search needs
-
-loop-less : tie.Need-loop-less Inv-loop μ-loop
-loop-less c = search needs
-
 loop-again : tie.Need-loop-again Inv-loop μ-loop
 loop-again c =
     let l = c .before .before .before .before .before in (
@@ -61,8 +55,8 @@ mark-row-spec =
     mark-requires
     same-length
     returns
-    add-j
-    loop-less
+    (λ c. search needs)
+    (λ c. search needs)
     loop-again
     same-length-2
     returns-2)

@@ -6,77 +6,41 @@ use borrow.Author.Needs.{needs}
 use Rattle.dispatch.proofs.dispatch.Statement.{statement}
 use Rattle.dispatch.proofs.dispatch.Tie as tie
 
-enum-known-command : tie.Need-enum-known-command
-enum-known-command c = search needs
-
 new-plan-requires : tie.Need-new-plan-requires
 new-plan-requires c κs = let k = c .before .before .before .before .before .before .before .before .pre .0 in (k .block-long, k .marks-long, λ h. new-any _ _ _ _ (refusal-is _ (c .before .before .before .command .given .1) (c .before .before .before .before .before .before .before .before .pre .2)))
-
-enum-known-command-2 : tie.Need-enum-known-command-2
-enum-known-command-2 c = search needs
 
 set-shift-requires : tie.Need-set-shift-requires
 set-shift-requires c κs = (λ v m. shift-any _ _ _ v m _ _ (refusal-is _ (c .before .command2 .given .1) (c .before .before .before .before .before .before .pre .2)), c .before .before .before .before .before .before .pre .0 .good)
 
-enum-known-command-3 : tie.Need-enum-known-command-3
-enum-known-command-3 c = search needs
-
 set-symbol-requires : tie.Need-set-symbol-requires
 set-symbol-requires c κs = (c .before .before .before .before .before .before .before .before .pre .0, refusal-is _ (c .before .before .before .command3 .given .1) (c .before .before .before .before .before .before .before .before .pre .2))
-
-enum-known-command-4 : tie.Need-enum-known-command-4
-enum-known-command-4 c = search needs
 
 mark-one-requires : tie.Need-mark-one-requires
 mark-one-requires c κs = (_, (c .before .before .before .before .before .before .before .pre .0, refusal-is _ (c .before .before .command4 .given .1) (c .before .before .before .before .before .before .before .pre .2)))
 
-enum-known-command-5 : tie.Need-enum-known-command-5
-enum-known-command-5 c = search needs
-
 mark-run-requires : tie.Need-mark-run-requires
 mark-run-requires c κs = (_, (c .before .before .before .before .before .before .before .pre .0, refusal-is _ (c .before .before .command5 .given .1) (c .before .before .before .before .before .before .before .pre .2)))
-
-enum-told : tie.Need-enum-told
-enum-told c = search needs
 
 recover-state-requires : tie.Need-recover-state-requires
 unfolding stateOf
 recover-state-requires c κs = (c .before .before .before .before .before .before .before .before .pre .0, c .before .before .before .before .before .before .before .before .pre .1, recover-planned _ (refusal-is _ (c .before .before .before .enum-told .given .1) (c .before .before .before .before .before .before .before .before .pre .2)))
 
-enum-told-2 : tie.Need-enum-told-2
-enum-told-2 c = search needs
-
 seal-state-requires : tie.Need-seal-state-requires
 unfolding stateOf
 seal-state-requires c κs = (c .before .before .before .before .before .before .before .before .pre .0, c .before .before .before .before .before .before .before .before .pre .1, seal-planned _ (refusal-is _ (c .before .before .before .enum-told2 .given .1) (c .before .before .before .before .before .before .before .before .pre .2)))
 
-enum-known-command-6 : tie.Need-enum-known-command-6
-enum-known-command-6 c = search needs
-
 show-requires : tie.Need-show-requires
 show-requires c κs = (c .before .before .before .before .before .before .before .before .pre .1, (_, (c .before .before .before .before .before .before .before .before .pre .0, refusal-is _ (c .before .before .before .command6 .given .1) (c .before .before .before .before .before .before .before .before .pre .2))))
-
-enum-told-3 : tie.Need-enum-told-3
-enum-told-3 c = search needs
 
 tell-figures-requires : tie.Need-tell-figures-requires
 unfolding stateOf
 tell-figures-requires c κs = (c .before .before .before .before .before .before .pre .1, c .before .before .before .before .before .before .pre .0 .good (figures-planned _ (refusal-is _ (c .before .enum-told3 .given .1) (c .before .before .before .before .before .before .pre .2))))
 
-enum-known-command-7 : tie.Need-enum-known-command-7
-enum-known-command-7 c = search needs
-
 straight-requires : tie.Need-straight-requires
 straight-requires c κs = let k = c .before .before .before .before .before .before .before .before .pre .0 in (k .block-long, k .marks-long, λ h. straight-any _ _ _ _ (refusal-is _ (c .before .before .before .command7 .given .1) (c .before .before .before .before .before .before .before .before .pre .2)))
 
-enum-known-command-8 : tie.Need-enum-known-command-8
-enum-known-command-8 c = search needs
-
 powers-requires : tie.Need-powers-requires
 powers-requires c κs = let k = c .before .before .before .before .before .before .before .before .pre .0 in (k .block-long, k .marks-long, λ h. powers-any _ _ _ _ _ (refusal-is _ (c .before .before .before .command8 .given .1) (c .before .before .before .before .before .before .before .before .pre .2)))
-
-enum-known-command-9 : tie.Need-enum-known-command-9
-enum-known-command-9 c = search needs
 
 ruler-requires : tie.Need-ruler-requires
 ruler-requires c κs = let k = c .before .before .before .before .before .before .before .before .pre .0 in (k .block-long, k .marks-long, λ h. ruler-any _ _ _ (refusal-is _ (c .before .before .before .command9 .given .1) (c .before .before .before .before .before .before .before .before .pre .2)))
@@ -138,9 +102,6 @@ same-length-12 c = c .before .before .before .before .before .before .seal-state
 returns-7 : tie.Need-returns-7
 returns-7 c = told-acts _ _ (c .before .before .before .before .before .before .before .before .before .before .enum-told2 .given .1) (c .before .before .before .before .before .before .seal-state .ensures)
 
-same-length-13 : tie.Need-same-length-13
-same-length-13 c = search needs
-
 same-length-14 : tie.Need-same-length-14
 same-length-14 c = c .before .before .show .kept .1 .1 .0
 
@@ -181,4 +142,4 @@ returns-12 : tie.Need-returns-12
 returns-12 c = quiet-acts _ (c .before .before .before .before .before .before .before .before .command9 .given .1) (c .before .before .before .before .ruler .ensures _)
 
 pub dispatch-spec : {M : Type 1} → statement M
-dispatch-spec = tie.close (tie.spec enum-known-command new-plan-requires enum-known-command-2 set-shift-requires enum-known-command-3 set-symbol-requires enum-known-command-4 mark-one-requires enum-known-command-5 mark-run-requires enum-told recover-state-requires enum-told-2 seal-state-requires enum-known-command-6 show-requires enum-told-3 tell-figures-requires enum-known-command-7 straight-requires enum-known-command-8 powers-requires enum-known-command-9 ruler-requires same-length same-length-2 returns returns-2 same-length-3 same-length-4 returns-3 same-length-5 returns-4 same-length-6 returns-5 same-length-7 same-length-8 same-length-9 returns-6 same-length-10 same-length-11 same-length-12 returns-7 same-length-13 same-length-14 returns-8 same-length-15 returns-9 same-length-16 same-length-17 returns-10 same-length-18 same-length-19 returns-11 same-length-20 same-length-21 returns-12)
+dispatch-spec = tie.close (tie.spec (λ c. search needs) new-plan-requires (λ c. search needs) set-shift-requires (λ c. search needs) set-symbol-requires (λ c. search needs) mark-one-requires (λ c. search needs) mark-run-requires (λ c. search needs) recover-state-requires (λ c. search needs) seal-state-requires (λ c. search needs) show-requires (λ c. search needs) tell-figures-requires (λ c. search needs) straight-requires (λ c. search needs) powers-requires (λ c. search needs) ruler-requires same-length same-length-2 returns returns-2 same-length-3 same-length-4 returns-3 same-length-5 returns-4 same-length-6 returns-5 same-length-7 same-length-8 same-length-9 returns-6 same-length-10 same-length-11 same-length-12 returns-7 (λ c. search needs) same-length-14 returns-8 same-length-15 returns-9 same-length-16 same-length-17 returns-10 same-length-18 same-length-19 returns-11 same-length-20 same-length-21 returns-12)

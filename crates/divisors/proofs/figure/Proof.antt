@@ -5,17 +5,8 @@ use native.Mathlib.Omega.{arith}
 use Rattle.divisors.proofs.figure.Statement.{statement}
 use Rattle.divisors.proofs.figure.Tie as tie
 
-mul-result : tie.Need-mul-result
-mul-result c = search needs
-
-div-result : tie.Need-div-result
-div-result c = search needs
-
 sub-result : tie.Need-sub-result
 sub-result c = omega (arith, figure-fits (c .pre .0) (c .pre .1))
 
-returns : tie.Need-returns
-returns c = search needs
-
 pub figure-spec : {M : Type 1} → statement M
-figure-spec = tie.close (tie.spec mul-result div-result sub-result returns)
+figure-spec = tie.close (tie.spec (λ c. search needs) (λ c. search needs) sub-result (λ c. search needs))

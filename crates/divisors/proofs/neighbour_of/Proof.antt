@@ -4,11 +4,8 @@ use borrow.Author.Needs.{needs}
 use Rattle.divisors.proofs.neighbour_of.Statement.{statement}
 use Rattle.divisors.proofs.neighbour_of.Tie as tie
 
-add-result : tie.Need-add-result
-add-result c = search needs
-
 returns : tie.Need-returns
 returns c = next-neighbour (c .pre)
 
 pub neighbour-of-spec : {M : Type 1} → statement M
-neighbour-of-spec = tie.close (tie.spec add-result returns)
+neighbour-of-spec = tie.close (tie.spec (λ c. search needs) returns)

@@ -15,18 +15,6 @@ abbrev μ-loop : tie.MeasureT-loop
 loop-holds : tie.Need-loop-holds Inv-loop μ-loop
 loop-holds c = (search needs, near-start _)
 
-of-near-requires : tie.Need-of-near-requires Inv-loop μ-loop
-of-near-requires c κs = search needs
-
-greater-requires : tie.Need-greater-requires Inv-loop μ-loop
-greater-requires c κs = search needs
-
-add-j : tie.Need-add-j Inv-loop μ-loop
-add-j c = search needs
-
-loop-less : tie.Need-loop-less Inv-loop μ-loop
-loop-less c = search needs
-
 loop-again : tie.Need-loop-again Inv-loop μ-loop
 loop-again c = (search needs, near-more _ (c .before .before .before .loop .inv .1) (c .before .of-near .ensures) (c .greater .ensures))
 
@@ -40,9 +28,9 @@ of-neighbours-spec =
     Inv-loop
     μ-loop
     loop-holds
-    of-near-requires
-    greater-requires
-    add-j
-    loop-less
+    (λ c κs. search needs)
+    (λ c κs. search needs)
+    (λ c. search needs)
+    (λ c. search needs)
     loop-again
     returns)

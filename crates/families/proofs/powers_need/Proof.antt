@@ -15,17 +15,8 @@ returns-2 c = sym (need-narrow _ _ _ (omega arith))
 returns-3 : tie.Need-returns-3
 returns-3 c = sym (need-small _ _ _ (omega arith))
 
-gcd-requires : tie.Need-gcd-requires
-gcd-requires c κs = search needs
-
 returns-4 : tie.Need-returns-4
 returns-4 c = sym (need-factor _ _ _ (λ e. c .if4 .taken (c .before .gcd .ensures ∙ e)))
-
-sub-gcd : tie.Need-sub-gcd
-sub-gcd c = search needs
-
-gcd-requires-2 : tie.Need-gcd-requires-2
-gcd-requires-2 c κs = search needs
 
 returns-5 : tie.Need-returns-5
 returns-5 c = sym (need-last _ _ _ (omega arith) (omega arith) (omega arith) (sym (c .before .before .gcd .ensures) ∙ c .before .if4 .left) (c .gcd2 .ensures))
@@ -33,4 +24,4 @@ returns-5 c = sym (need-last _ _ _ (omega arith) (omega arith) (omega arith) (sy
 pub powers-need-spec : {M : Type 1} → statement M
 powers-need-spec =
     tie.close
-    (tie.spec returns returns-2 returns-3 gcd-requires returns-4 sub-gcd gcd-requires-2 returns-5)
+    (tie.spec returns returns-2 returns-3 (λ c κs. search needs) returns-4 (λ c. search needs) (λ c κs. search needs) returns-5)

@@ -6,20 +6,8 @@ use borrow.Author.Needs.{needs}
 use Rattle.figures.proofs.figures.Statement.{statement}
 use Rattle.figures.proofs.figures.Tie as tie
 
-check-requires : tie.Need-check-requires
-check-requires c κs = search needs
-
-enum-told : tie.Need-enum-told
-enum-told c = search needs
-
-slice-aggregate-of-good : tie.Need-slice-aggregate-of-good
-slice-aggregate-of-good c = search needs
-
 of-good-requires : tie.Need-of-good-requires
 of-good-requires c κs = good-bounds _ (sym (c .before .before .before .check .ensures) ∙ c .before .enum-told .given .1)
-
-enum-known-x : tie.Need-enum-known-x
-enum-known-x c = search needs
 
 returns : tie.Need-returns
 returns c = answered-good _ (sym (c .before .before .before .before .check .ensures) ∙ c .before .before .enum-told .given .1) (c .of-good .ensures)
@@ -31,10 +19,10 @@ pub figures-spec : {M : Type 1} → statement M
 figures-spec =
     tie.close
     (tie.spec
-    check-requires
-    enum-told
-    slice-aggregate-of-good
+    (λ c κs. search needs)
+    (λ c. search needs)
+    (λ c. search needs)
     of-good-requires
-    enum-known-x
+    (λ c. search needs)
     returns
     returns-2)

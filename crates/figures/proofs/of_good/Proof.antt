@@ -4,20 +4,11 @@ use borrow.Author.Needs.{needs}
 use Rattle.figures.proofs.of_good.Statement.{statement}
 use Rattle.figures.proofs.of_good.Tie as tie
 
-of-pairs-requires : tie.Need-of-pairs-requires
-of-pairs-requires c κs = search needs
-
-of-neighbours-requires : tie.Need-of-neighbours-requires
-of-neighbours-requires c κs = search needs
-
 figure-requires : tie.Need-figure-requires
 figure-requires c κs = pair-asks (c .before .before .before .pre) (c .before .of-pairs .ensures)
 
 figure-requires-2 : tie.Need-figure-requires-2
 figure-requires-2 c κs = near-asks (c .before .before .before .before .pre) (c .before .of-neighbours .ensures)
-
-count-requires : tie.Need-count-requires
-count-requires c κs = search needs
 
 distance-requires : tie.Need-distance-requires
 distance-requires c κs =
@@ -35,10 +26,10 @@ pub of-good-spec : {M : Type 1} → statement M
 of-good-spec =
     tie.close
     (tie.spec
-    of-pairs-requires
-    of-neighbours-requires
+    (λ c κs. search needs)
+    (λ c κs. search needs)
     figure-requires
     figure-requires-2
-    count-requires
+    (λ c κs. search needs)
     distance-requires
     returns)

@@ -7,39 +7,15 @@ use borrow.Author.Needs.{needs}
 use Rattle.job.proofs.go.Statement.{statement}
 use Rattle.job.proofs.go.Tie as tie
 
-refusal-requires : tie.Need-refusal-requires
-refusal-requires c κs = search needs
-
-enum-known-x : tie.Need-enum-known-x
-enum-known-x c = search needs
-
-stop-requires : tie.Need-stop-requires
-stop-requires c κs = search needs
-
-enum-told : tie.Need-enum-told
-enum-told c = search needs
-
 dispatch-requires : tie.Need-dispatch-requires
 unfolding stateOf
 dispatch-requires c κs = (c .before .before .before .before .before .before .before .before .before .before .pre .0, c .before .before .before .before .before .before .before .before .before .before .pre .1, sym (c .before .before .before .before .before .refusal .ensures _ refl refl) ∙ c .before .before .before .enum-told .given .1)
-
-same-length : tie.Need-same-length
-same-length c = search needs
 
 returns : tie.Need-returns
 unfolding stateOf
 returns c =
     λ b last p e. on-refused _ p (sym (c .before .before .before .before .before .x .given .1) ∙ c .before .before .before .before .before .before .before .refusal .ensures _ refl refl) (λ q. pass-not-stop _ (sym q)) (c .before .before .stop .ensures .1)
     (record { held = c .before .before .stop .ensures .0; block = refl; marks = refl })
-
-same-length-2 : tie.Need-same-length-2
-same-length-2 c = search needs
-
-same-length-3 : tie.Need-same-length-3
-same-length-3 c = search needs
-
-same-length-4 : tie.Need-same-length-4
-same-length-4 c = search needs
 
 returns-2 : tie.Need-returns-2
 unfolding stateOf
@@ -51,14 +27,14 @@ pub go-spec : {M : Type 1} → statement M
 go-spec =
     tie.close
     (tie.spec
-    refusal-requires
-    enum-known-x
-    stop-requires
-    enum-told
+    (λ c κs. search needs)
+    (λ c. search needs)
+    (λ c κs. search needs)
+    (λ c. search needs)
     dispatch-requires
-    same-length
+    (λ c. search needs)
     returns
-    same-length-2
-    same-length-3
-    same-length-4
+    (λ c. search needs)
+    (λ c. search needs)
+    (λ c. search needs)
     returns-2)

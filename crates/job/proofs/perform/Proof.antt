@@ -6,26 +6,8 @@ use borrow.Author.Needs.{needs}
 use Rattle.job.proofs.perform.Statement.{statement}
 use Rattle.job.proofs.perform.Tie as tie
 
-check-held-requires : tie.Need-check-held-requires
-check-held-requires c κs = search needs
-
-enum-known-x : tie.Need-enum-known-x
-enum-known-x c = search needs
-
-enum-told : tie.Need-enum-told
-enum-told c = search needs
-
 take-turn-requires : tie.Need-take-turn-requires
 take-turn-requires c κs = pass-kept _ _ _ _ (sym (c .before .before .before .before .before .check-held .ensures) ∙ c .before .before .before .enum-told .given .1)
-
-same-length : tie.Need-same-length
-same-length c = search needs
-
-same-length-2 : tie.Need-same-length-2
-same-length-2 c = search needs
-
-same-length-3 : tie.Need-same-length-3
-same-length-3 c = search needs
 
 returns : tie.Need-returns
 returns c = performs-bad _ _ _ _ _ _ _ _ (sym (c .before .before .before .check-held .ensures) ∙ c .before .x .given .1)
@@ -43,4 +25,4 @@ returns-2 : tie.Need-returns-2
 returns-2 c = performs-passed (sym (c .before .before .before .before .before .before .before .before .before .before .before .before .check-held .ensures) ∙ c .before .before .before .before .before .before .before .before .before .before .enum-told .given .1) (c .before .before .before .before .before .before .take-turn .ensures)
 
 pub perform-spec : {M : Type 1} → statement M
-perform-spec = tie.close (tie.spec check-held-requires enum-known-x enum-told take-turn-requires same-length same-length-2 same-length-3 returns same-length-4 same-length-5 same-length-6 returns-2)
+perform-spec = tie.close (tie.spec (λ c κs. search needs) (λ c. search needs) (λ c. search needs) take-turn-requires (λ c. search needs) (λ c. search needs) (λ c. search needs) returns same-length-4 same-length-5 same-length-6 returns-2)

@@ -4,32 +4,14 @@ use borrow.Author.Needs.{needs}
 use Rattle.job.proofs.take_turn.Statement.{statement}
 use Rattle.job.proofs.take_turn.Tie as tie
 
-parse-requires : tie.Need-parse-requires
-parse-requires c κs = search needs
-
-enum-told : tie.Need-enum-told
-enum-told c = search needs
-
 at-end-requires : tie.Need-at-end-requires
 at-end-requires c κs = c .before .before .before .before .before .before .before .before .pre .1
-
-enum-told-2 : tie.Need-enum-told-2
-enum-told-2 c = search needs
 
 unknown-requires : tie.Need-unknown-requires
 unknown-requires c κs = c .before .before .before .before .before .before .before .before .pre .1
 
-enum-told-3 : tie.Need-enum-told-3
-enum-told-3 c = search needs
-
 cut-off-requires : tie.Need-cut-off-requires
 cut-off-requires c κs = c .before .before .before .before .before .before .before .before .pre .1
-
-enum-known-command : tie.Need-enum-known-command
-enum-known-command c = search needs
-
-size-at-requires : tie.Need-size-at-requires
-size-at-requires c κs = search needs
 
 go-requires : tie.Need-go-requires
 go-requires c κs = c .before .before .before .before .before .before .before .before .before .before .before .before .pre
@@ -65,4 +47,4 @@ returns-4 : tie.Need-returns-4
 returns-4 c = c .before .before .before .before .before .before .go .ensures _ _ (sym (c .before .before .before .before .before .before .before .before .before .before .before .before .before .before .parse .ensures) ∙ c .before .before .before .before .before .before .before .before .before .before .before .before .command .given .1) (c .before .before .before .before .before .before .before .size-at .ensures)
 
 pub take-turn-spec : {M : Type 1} → statement M
-take-turn-spec = tie.close (tie.spec parse-requires enum-told at-end-requires enum-told-2 unknown-requires enum-told-3 cut-off-requires enum-known-command size-at-requires go-requires same-length returns same-length-2 returns-2 same-length-3 returns-3 same-length-4 same-length-5 same-length-6 returns-4)
+take-turn-spec = tie.close (tie.spec (λ c κs. search needs) (λ c. search needs) at-end-requires (λ c. search needs) unknown-requires (λ c. search needs) cut-off-requires (λ c. search needs) (λ c κs. search needs) go-requires same-length returns same-length-2 returns-2 same-length-3 returns-3 same-length-4 same-length-5 same-length-6 returns-4)

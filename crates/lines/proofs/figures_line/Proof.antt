@@ -7,12 +7,6 @@ use Rattle.lines.specs.LinesLaws.{begun, more, ended}
 use Rattle.lines.proofs.figures_line.Statement.{statement}
 use Rattle.lines.proofs.figures_line.Tie as tie
 
-slice-aggregate-put-word : tie.Need-slice-aggregate-put-word
-slice-aggregate-put-word c = search needs
-
-put-word-requires : tie.Need-put-word-requires
-put-word-requires c κs = search needs
-
 put-number-requires : tie.Need-put-number-requires
 put-number-requires c κs =
     let s = c .before .before .before .before .before .before .before in
@@ -53,9 +47,6 @@ finish-requires c κs =
     let t = c .before .before .before .put-number4 .ensures in
     omega (arith, s .pre, w .past, w .long, p .past, p .long, q .past, q .long, r .past, r .long, t .past, t .long, length-decimal-64 (s .args .parity) (s .fits .parity .fits), length-decimal-64 (s .args .pair) (s .fits .pair .fits), length-decimal-64 (s .args .neighbour) (s .fits .neighbour .fits), length-decimal-64 (s .args .distance) (s .fits .distance .fits))
 
-same-length : tie.Need-same-length
-same-length c = search needs
-
 returns : tie.Need-returns
 unfolding figuresWord
 returns c =
@@ -70,12 +61,12 @@ pub figures-line-spec : {M : Type 1} → statement M
 figures-line-spec =
     tie.close
     (tie.spec
-    slice-aggregate-put-word
-    put-word-requires
+    (λ c. search needs)
+    (λ c κs. search needs)
     put-number-requires
     put-number-requires-2
     put-number-requires-3
     put-number-requires-4
     finish-requires
-    same-length
+    (λ c. search needs)
     returns)

@@ -7,9 +7,6 @@ use Rattle.lines.specs.LinesLaws.{begun, more, more-list, ended}
 use Rattle.lines.proofs.listed.Statement.{statement}
 use Rattle.lines.proofs.listed.Tie as tie
 
-put-word-requires : tie.Need-put-word-requires
-put-word-requires c κs = search needs
-
 put-number-requires : tie.Need-put-number-requires
 put-number-requires c κs =
     let s = c .before .before .before .before .before .before .before .before in
@@ -34,9 +31,6 @@ finish-requires c κs =
     let small : s .args .count < 100000 = omega (arith, s .pre) in
     omega (arith, s .pre, w .past, w .long, p .past, p .long, q .1, q .0 .long, length-decimal-5 (s .args .count) small)
 
-same-length : tie.Need-same-length
-same-length c = search needs
-
 returns : tie.Need-returns
 returns c =
     let w = c .before .before .before .before .before .before .before .before .before .before .before .before .before .before .put-word .ensures in
@@ -48,9 +42,9 @@ pub listed-spec : {M : Type 1} → statement M
 listed-spec =
     tie.close
     (tie.spec
-    put-word-requires
+    (λ c κs. search needs)
     put-number-requires
     put-list-requires
     finish-requires
-    same-length
+    (λ c. search needs)
     returns)

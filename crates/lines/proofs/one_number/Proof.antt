@@ -6,9 +6,6 @@ use Rattle.lines.specs.LinesLaws.{begun, more, ended}
 use Rattle.lines.proofs.one_number.Statement.{statement}
 use Rattle.lines.proofs.one_number.Tie as tie
 
-put-word-requires : tie.Need-put-word-requires
-put-word-requires c κs = search needs
-
 put-number-requires : tie.Need-put-number-requires
 put-number-requires c κs =
     let s = c .before .before .before .before .before .before .before in
@@ -22,9 +19,6 @@ finish-requires c κs =
     let p = c .before .before .before .put-number .ensures in
     omega (arith, s .pre, w .past, w .long, p .past, p .long, length-decimal-64 (s .args .n) (s .fits .n .fits))
 
-same-length : tie.Need-same-length
-same-length c = search needs
-
 returns : tie.Need-returns
 returns c =
     let w = c .before .before .before .before .before .before .before .before .before .before .put-word .ensures in
@@ -33,4 +27,4 @@ returns c =
 
 pub one-number-spec : {M : Type 1} → statement M
 one-number-spec =
-    tie.close (tie.spec put-word-requires put-number-requires finish-requires same-length returns)
+    tie.close (tie.spec (λ c κs. search needs) put-number-requires finish-requires (λ c. search needs) returns)

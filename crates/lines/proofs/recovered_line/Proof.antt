@@ -4,19 +4,10 @@ use Rattle.lines.specs.Lines.{recoveredWord}
 use Rattle.lines.proofs.recovered_line.Statement.{statement}
 use Rattle.lines.proofs.recovered_line.Tie as tie
 
-slice-aggregate-one-number : tie.Need-slice-aggregate-one-number
-slice-aggregate-one-number c = search needs
-
-one-number-requires : tie.Need-one-number-requires
-one-number-requires c κs = search needs
-
-same-length : tie.Need-same-length
-same-length c = search needs
-
 returns : tie.Need-returns
 unfolding recoveredWord
 returns c = c .before .before .one-number .ensures
 
 pub recovered-line-spec : {M : Type 1} → statement M
 recovered-line-spec =
-    tie.close (tie.spec slice-aggregate-one-number one-number-requires same-length returns)
+    tie.close (tie.spec (λ c. search needs) (λ c κs. search needs) (λ c. search needs) returns)

@@ -4,19 +4,10 @@ use Rattle.lines.specs.Lines.{symbolWord}
 use Rattle.lines.proofs.symbol_line.Statement.{statement}
 use Rattle.lines.proofs.symbol_line.Tie as tie
 
-slice-aggregate-two-numbers : tie.Need-slice-aggregate-two-numbers
-slice-aggregate-two-numbers c = search needs
-
-two-numbers-requires : tie.Need-two-numbers-requires
-two-numbers-requires c κs = search needs
-
-same-length : tie.Need-same-length
-same-length c = search needs
-
 returns : tie.Need-returns
 unfolding symbolWord
 returns c = c .before .before .two-numbers .ensures
 
 pub symbol-line-spec : {M : Type 1} → statement M
 symbol-line-spec =
-    tie.close (tie.spec slice-aggregate-two-numbers two-numbers-requires same-length returns)
+    tie.close (tie.spec (λ c. search needs) (λ c κs. search needs) (λ c. search needs) returns)

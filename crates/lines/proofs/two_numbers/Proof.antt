@@ -6,9 +6,6 @@ use Rattle.lines.specs.LinesLaws.{begun, more, ended}
 use Rattle.lines.proofs.two_numbers.Statement.{statement}
 use Rattle.lines.proofs.two_numbers.Tie as tie
 
-put-word-requires : tie.Need-put-word-requires
-put-word-requires c κs = search needs
-
 put-number-requires : tie.Need-put-number-requires
 put-number-requires c κs =
     let s = c .before .before .before .before .before .before .before in
@@ -30,9 +27,6 @@ finish-requires c κs =
     let q = c .before .before .before .put-number2 .ensures in
     omega (arith, s .pre, w .past, w .long, p .past, p .long, q .past, q .long, length-decimal-64 (s .args .n) (s .fits .n .fits), length-decimal-64 (s .args .m) (s .fits .m .fits))
 
-same-length : tie.Need-same-length
-same-length c = search needs
-
 returns : tie.Need-returns
 returns c =
     let w = c .before .before .before .before .before .before .before .before .before .before .before .before .before .before .put-word .ensures in
@@ -44,9 +38,9 @@ pub two-numbers-spec : {M : Type 1} → statement M
 two-numbers-spec =
     tie.close
     (tie.spec
-    put-word-requires
+    (λ c κs. search needs)
     put-number-requires
     put-number-requires-2
     finish-requires
-    same-length
+    (λ c. search needs)
     returns)

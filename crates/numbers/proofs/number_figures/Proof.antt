@@ -4,18 +4,6 @@ use Rattle.numbers.specs.EntryLaws.{figures-done, figures-refused}
 use Rattle.numbers.proofs.number_figures.Statement.{statement}
 use Rattle.numbers.proofs.number_figures.Tie as tie
 
-figures-requires : tie.Need-figures-requires
-figures-requires c κs = search needs
-
-enum-known-f : tie.Need-enum-known-f
-enum-known-f c = search needs
-
-enum-known-x : tie.Need-enum-known-x
-enum-known-x c = search needs
-
-number-requires : tie.Need-number-requires
-number-requires c κs = search needs
-
 returns : tie.Need-returns
 returns c = figures-done _ _ (rw (c .before .f .given .1) at (c .before .before .before .figures .ensures))
 
@@ -27,4 +15,4 @@ returns-2 c =
 pub number-figures-spec : {M : Type 1} → statement M
 number-figures-spec =
     tie.close
-    (tie.spec figures-requires enum-known-f enum-known-x number-requires returns returns-2)
+    (tie.spec (λ c κs. search needs) (λ c. search needs) (λ c. search needs) (λ c κs. search needs) returns returns-2)

@@ -26,15 +26,6 @@ start-requires c κs = c .before .before .before .pre .0 .0
 loop-holds : tie.Need-loop-holds Inv-loop μ-loop
 loop-holds c = (omega arith, omega arith, reached-on _ (omega arith) (c .start .ensures), seen-at (omega arith) (seen-start _ (c .before .before .before .before .pre .1)))
 
-mul-wide : tie.Need-mul-wide Inv-loop μ-loop
-mul-wide c = search needs
-
-shared-slice-read-wide : tie.Need-shared-slice-read-wide Inv-loop μ-loop
-shared-slice-read-wide c = search needs
-
-wide-requires : tie.Need-wide-requires Inv-loop μ-loop
-wide-requires c κs = search needs
-
 add-c : tie.Need-add-c Inv-loop μ-loop
 add-c c = omega (arith, section-fits (c .before .before .before .before .before .before .before .before .pre .0 .0) (c .before .before .before .before .before .before .before .before .pre .0 .1) (c .before .before .loop-test .taken) (c .before .before .before .loop .inv .1), c .wide .ensures)
 
@@ -72,9 +63,9 @@ count-parities-spec =
     μ-loop
     start-requires
     loop-holds
-    mul-wide
-    shared-slice-read-wide
-    wide-requires
+    (λ c. search needs)
+    (λ c. search needs)
+    (λ c κs. search needs)
     add-c
     add-end
     note-places-requires

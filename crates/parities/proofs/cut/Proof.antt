@@ -5,9 +5,6 @@ use Rattle.parities.specs.Settling.{cut-blank, cut-room}
 use Rattle.parities.proofs.cut.Statement.{statement}
 use Rattle.parities.proofs.cut.Tie as tie
 
-mul-rows : tie.Need-mul-rows
-mul-rows c = search needs
-
 slice-relend-prefix-settle-parities : tie.Need-slice-relend-prefix-settle-parities
 slice-relend-prefix-settle-parities c = zeros-room (c .before .before .before .before .before .before .before .before .before .pre .1 .sum-zeros)
 
@@ -20,20 +17,11 @@ slice-relend-prefix-settle-parities-2 c = zeros-room (c .before .before .before 
 slice-aggregate-settle-parities-2 : tie.Need-slice-aggregate-settle-parities-2
 slice-aggregate-settle-parities-2 c = front-long _ _ (zeros-room (c .before .before .before .before .before .before .before .before .before .before .before .pre .1 .tally-zeros))
 
-slice-relend-prefix-settle-parities-3 : tie.Need-slice-relend-prefix-settle-parities-3
-slice-relend-prefix-settle-parities-3 c = search needs
-
 slice-aggregate-settle-parities-3 : tie.Need-slice-aggregate-settle-parities-3
 slice-aggregate-settle-parities-3 c = front-long _ _ (c .before .before .before .before .before .before .before .before .before .before .before .before .pre .1 .queue-room)
 
-slice-relend-prefix-settle-parities-4 : tie.Need-slice-relend-prefix-settle-parities-4
-slice-relend-prefix-settle-parities-4 c = search needs
-
 slice-aggregate-settle-parities-4 : tie.Need-slice-aggregate-settle-parities-4
 slice-aggregate-settle-parities-4 c = front-long _ _ (c .before .before .before .before .before .before .before .before .before .before .before .before .before .pre .1 .place-room)
-
-slice-relend-prefix-settle-parities-5 : tie.Need-slice-relend-prefix-settle-parities-5
-slice-relend-prefix-settle-parities-5 c = search needs
 
 slice-aggregate-settle-parities-5 : tie.Need-slice-aggregate-settle-parities-5
 slice-aggregate-settle-parities-5 c = front-long _ _ (c .before .before .before .before .before .before .before .before .before .before .before .before .before .before .pre .1 .value-room)
@@ -41,47 +29,26 @@ slice-aggregate-settle-parities-5 c = front-long _ _ (c .before .before .before 
 settle-parities-requires : tie.Need-settle-parities-requires
 settle-parities-requires c κs = (c .before .before .before .before .before .before .before .before .before .before .before .before .before .before .pre .0, (cut-blank (c .before .before .before .before .before .before .before .before .before .before .before .before .before .before .pre .1), cut-room (c .before .before .before .before .before .before .before .before .before .before .before .before .before .before .pre .1)))
 
-same-length : tie.Need-same-length
-same-length c = search needs
-
-same-length-2 : tie.Need-same-length-2
-same-length-2 c = search needs
-
-same-length-3 : tie.Need-same-length-3
-same-length-3 c = search needs
-
-same-length-4 : tie.Need-same-length-4
-same-length-4 c = search needs
-
-same-length-5 : tie.Need-same-length-5
-same-length-5 c = search needs
-
-same-length-6 : tie.Need-same-length-6
-same-length-6 c = search needs
-
-returns : tie.Need-returns
-returns c = search needs
-
 pub cut-spec : {M : Type 1} → statement M
 cut-spec =
     tie.close
     (tie.spec
-    mul-rows
+    (λ c. search needs)
     slice-relend-prefix-settle-parities
     slice-aggregate-settle-parities
     slice-relend-prefix-settle-parities-2
     slice-aggregate-settle-parities-2
-    slice-relend-prefix-settle-parities-3
+    (λ c. search needs)
     slice-aggregate-settle-parities-3
-    slice-relend-prefix-settle-parities-4
+    (λ c. search needs)
     slice-aggregate-settle-parities-4
-    slice-relend-prefix-settle-parities-5
+    (λ c. search needs)
     slice-aggregate-settle-parities-5
     settle-parities-requires
-    same-length
-    same-length-2
-    same-length-3
-    same-length-4
-    same-length-5
-    same-length-6
-    returns)
+    (λ c. search needs)
+    (λ c. search needs)
+    (λ c. search needs)
+    (λ c. search needs)
+    (λ c. search needs)
+    (λ c. search needs)
+    (λ c. search needs))

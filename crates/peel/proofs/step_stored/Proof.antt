@@ -11,17 +11,8 @@ use Rattle.peel.proofs.step_stored.Tie as tie
 row-at-requires : tie.Need-row-at-requires
 row-at-requires c κs = head-long (c .before .before .before .before .before .before .before .pre .0) (c .before .before .before .before .before .before .before .pre .1)
 
-cast-r : tie.Need-cast-r
-cast-r c = search needs
-
-mul-if1 : tie.Need-mul-if1
-mul-if1 c = search needs
-
 slice-read-if1 : tie.Need-slice-read-if1
 slice-read-if1 c = head-tally (c .before .before .before .before .before .before .before .before .before .before .pre .0) (c .before .before .before .before .before .before .before .before .before .before .pre .1) (c .before .before .row-at .ensures)
-
-same-length : tie.Need-same-length
-same-length c = search needs
 
 returns : tie.Need-returns
 unfolding counts
@@ -41,7 +32,7 @@ slice-write-value : tie.Need-slice-write-value
 slice-write-value c = count-long (c .before .before .before .before .before .before .before .before .before .before .before .before .before .before .before .before .before .before .before .before .before .before .before .before .before .before .before .before .pre .0) (c .before .before .before .before .before .before .before .before .before .before .before .before .before .before .before .before .before .before .before .before .before .before .before .before .before .before .before .before .pre .1) .1
 
 add-t21 : tie.Need-add-t21
-add-t21 c = omega (arith, count-lt (c .before .before .before .before .before .before .before .before .before .before .before .before .before .before .before .before .before .before .before .before .before .before .before .before .before .before .before .before .pre .0) (c .before .before .before .before .before .before .before .before .before .before .before .before .before .before .before .before .before .before .before .before .before .before .before .before .before .before .before .before .pre .1), c .before .before .before .before .before .before .before .before .before .before .before .before .before .before .before .before .before .before .before .before .before .before .before .before .before .before .before .before .pre .0 .sized .t-max)
+add-t21 c = omega (arith, count-lt (c .before .before .before .before .before .before .before .before .before .before .before .before .before .before .before .before .before .before .before .before .before .before .before .before .before .before .before .before .pre .0) (c .before .before .before .before .before .before .before .before .before .before .before .before .before .before .before .before .before .before .before .before .before .before .before .before .before .before .before .before .pre .1), c .before .before .before .before .before .before .before .before .before .before .before .before .before .before .before .before .before .before .before .before .before .before .before .before .before .before .before .before .pre .0 .good .t-max)
 
 same-length-2 : tie.Need-same-length-2
 same-length-2 c = c .before .before .before .before .before .before .before .before .before .before .before .before .before .before .settle .kept .1 .1 .1 .0
@@ -66,10 +57,10 @@ step-stored-spec =
     tie.close
     (tie.spec
     row-at-requires
-    cast-r
-    mul-if1
+    (λ c. search needs)
+    (λ c. search needs)
     slice-read-if1
-    same-length
+    (λ c. search needs)
     returns
     settle-requires
     enter-stored-requires

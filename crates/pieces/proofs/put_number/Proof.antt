@@ -8,20 +8,8 @@ use Rattle.pieces.specs.PiecesLaws.{appends-number}
 use Rattle.pieces.proofs.put_number.Statement.{statement}
 use Rattle.pieces.proofs.put_number.Tie as tie
 
-width-requires : tie.Need-width-requires
-width-requires c κs = search needs
-
-slice-write-line : tie.Need-slice-write-line
-slice-write-line c = search needs
-
-add-from : tie.Need-add-from
-add-from c = search needs
-
 spell-requires : tie.Need-spell-requires
 spell-requires c κs = simp length-set (omega (arith, length-decimal-is (c .before .before .before .args .n)))
-
-add-result : tie.Need-add-result
-add-result c = search needs
 
 same-length : tie.Need-same-length
 same-length c = c .before .before .spell .kept .0 ∙ length-set (c .before .before .before .before .before .before .args .line .now) (c .before .before .before .before .before .before .args .at) _
@@ -33,10 +21,10 @@ pub put-number-spec : {M : Type 1} → statement M
 put-number-spec =
     tie.close
     (tie.spec
-    width-requires
-    slice-write-line
-    add-from
+    (λ c κs. search needs)
+    (λ c. search needs)
+    (λ c. search needs)
     spell-requires
-    add-result
+    (λ c. search needs)
     same-length
     returns)

@@ -8,9 +8,6 @@ use Rattle.plan.proofs.check_shifts.Tie as tie
 returns : tie.Need-returns
 returns c = shifts-count _ _ _ (omega arith)
 
-all-below-requires : tie.Need-all-below-requires
-all-below-requires c κs = search needs
-
 returns-2 : tie.Need-returns-2
 returns-2 c = shifts-below _ _ _ (omega arith) (failed _ (c .before .all-below .ensures) (c .if2 .taken))
 
@@ -18,4 +15,4 @@ returns-3 : tie.Need-returns-3
 returns-3 c = shifts-pass _ _ _ (omega arith) (passed _ (c .before .all-below .ensures) (c .if2 .left))
 
 pub check-shifts-spec : {M : Type 1} → statement M
-check-shifts-spec = tie.close (tie.spec returns all-below-requires returns-2 returns-3)
+check-shifts-spec = tie.close (tie.spec returns (λ c κs. search needs) returns-2 returns-3)

@@ -6,12 +6,9 @@ use borrow.Author.Needs.{needs}
 use Rattle.plan.proofs.good.Statement.{statement}
 use Rattle.plan.proofs.good.Tie as tie
 
-raw-requires : tie.Need-raw-requires
-raw-requires c κs = search needs
-
 returns : tie.Need-returns
 unfolding plans.plan
 returns c = λ s e. made-by _ _ s (c .raw .ensures ∙ ap (plans.rawPlan _ _) e)
 
 pub good-spec : {M : Type 1} → statement M
-good-spec = tie.close (tie.spec raw-requires returns)
+good-spec = tie.close (tie.spec (λ c κs. search needs) returns)

@@ -11,9 +11,6 @@ use Rattle.plan.proofs.message_places.Tie as tie
 slice-aggregate-divisor : tie.Need-slice-aggregate-divisor
 slice-aggregate-divisor c = sym (length-take-le _ _ (c .before .before .pre .long))
 
-divisor-requires : tie.Need-divisor-requires
-divisor-requires c κs = search needs
-
 mul-result : tie.Need-mul-result
 mul-result c = omega (arith, c .before .before .before .pre)
 
@@ -34,7 +31,7 @@ message-places-spec =
     tie.close
     (tie.spec
     slice-aggregate-divisor
-    divisor-requires
+    (λ c κs. search needs)
     mul-result
     mul-result-2
     sub-result

@@ -4,11 +4,8 @@ use borrow.Author.Needs.{needs}
 use Rattle.plan.proofs.refused.Statement.{statement}
 use Rattle.plan.proofs.refused.Tie as tie
 
-none-requires : tie.Need-none-requires
-none-requires c κs = search needs
-
 returns : tie.Need-returns
 returns c = refused-by (c .none .ensures)
 
 pub refused-spec : {M : Type 1} → statement M
-refused-spec = tie.close (tie.spec none-requires returns)
+refused-spec = tie.close (tie.spec (λ c κs. search needs) returns)

@@ -6,47 +6,23 @@ use borrow.Author.Needs.{needs}
 use Rattle.putting.proofs.put_turn.Statement.{statement}
 use Rattle.putting.proofs.put_turn.Tie as tie
 
-enum-known-turn : tie.Need-enum-known-turn
-enum-known-turn c = search needs
-
 add-put-line : tie.Need-add-put-line
 add-put-line c = omega (arith, c .before .before .before .before .before .before .pre .0 .on _ _ (c .before .turn .given .1) .1)
 
 put-line-requires : tie.Need-put-line-requires
 put-line-requires c κs = (c .before .before .before .before .before .before .before .pre .0 .on _ _ (c .before .before .turn .given .1) .0, c .before .before .before .before .before .before .before .pre .1)
 
-enum-known-turn-2 : tie.Need-enum-known-turn-2
-enum-known-turn-2 c = search needs
-
 put-line-requires-2 : tie.Need-put-line-requires-2
 put-line-requires-2 c κs = (c .before .before .before .before .before .before .before .pre .0 .ended _ (c .before .before .turn2 .given .1), c .before .before .before .before .before .before .before .pre .1)
-
-enum-known-turn-3 : tie.Need-enum-known-turn-3
-enum-known-turn-3 c = search needs
 
 put-line-requires-3 : tie.Need-put-line-requires-3
 put-line-requires-3 c κs = (c .before .before .before .before .before .before .before .pre .0 .stopped _ _ (c .before .before .turn3 .given .1), c .before .before .before .before .before .before .before .pre .1)
 
-enum-told : tie.Need-enum-told
-enum-told c = search needs
-
-enum-told-2 : tie.Need-enum-told-2
-enum-told-2 c = search needs
-
-same-length : tie.Need-same-length
-same-length c = search needs
-
 returns : tie.Need-returns
 returns c = let p = c .before .before .put-line .ensures in (p .0, on _ _ (c .before .before .before .before .before .turn .given .1) (p .1) (p .2))
 
-same-length-2 : tie.Need-same-length-2
-same-length-2 c = search needs
-
 returns-2 : tie.Need-returns-2
 returns-2 c = let p = c .before .before .put-line2 .ensures in (p .0, ended _ (c .before .before .before .before .before .turn2 .given .1) (p .1) (p .2))
-
-same-length-3 : tie.Need-same-length-3
-same-length-3 c = search needs
 
 returns-3 : tie.Need-returns-3
 returns-3 c = let p = c .before .before .put-line3 .ensures in (p .0, stopped _ _ (c .before .before .before .before .before .turn3 .given .1) (p .1) (p .2))
@@ -58,4 +34,4 @@ returns-5 : tie.Need-returns-5
 returns-5 c = (refl, bad _ (c .enum-told2 .given .1) refl refl refl refl)
 
 pub put-turn-spec : {M : Type 1} → statement M
-put-turn-spec = tie.close (tie.spec enum-known-turn add-put-line put-line-requires enum-known-turn-2 put-line-requires-2 enum-known-turn-3 put-line-requires-3 enum-told enum-told-2 same-length returns same-length-2 returns-2 same-length-3 returns-3 returns-4 returns-5)
+put-turn-spec = tie.close (tie.spec (λ c. search needs) add-put-line put-line-requires (λ c. search needs) put-line-requires-2 (λ c. search needs) put-line-requires-3 (λ c. search needs) (λ c. search needs) (λ c. search needs) returns (λ c. search needs) returns-2 (λ c. search needs) returns-3 returns-4 returns-5)

@@ -5,20 +5,14 @@ use borrow.Author.Needs.{needs}
 use Rattle.reading.proofs.used.Statement.{statement}
 use Rattle.reading.proofs.used.Tie as tie
 
-wrapping-add-u64-requires : tie.Need-wrapping-add-u64-requires
-wrapping-add-u64-requires c κs = search needs
-
 returns : tie.Need-returns
 returns c = used-past _ _ (c .before .wrapping-add-u64 .ensures) (omega (arith, c .if1 .taken))
 
 returns-2 : tie.Need-returns-2
 returns-2 c = used-past _ _ (c .before .before .wrapping-add-u64 .ensures) (omega (arith, c .if2 .taken))
 
-add-t8 : tie.Need-add-t8
-add-t8 c = search needs
-
 returns-3 : tie.Need-returns-3
 returns-3 c = used-some _ _ (c .before .before .wrapping-add-u64 .ensures) (omega (arith, c .if2 .left, c .before .if1 .left))
 
 pub used-spec : {M : Type 1} → statement M
-used-spec = tie.close (tie.spec wrapping-add-u64-requires returns returns-2 add-t8 returns-3)
+used-spec = tie.close (tie.spec (λ c κs. search needs) returns returns-2 (λ c. search needs) returns-3)

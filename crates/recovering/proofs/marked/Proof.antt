@@ -6,14 +6,8 @@ use borrow.Author.Needs.{needs}
 use Rattle.recovering.proofs.marked.Statement.{statement}
 use Rattle.recovering.proofs.marked.Tie as tie
 
-erasure-count-requires : tie.Need-erasure-count-requires
-erasure-count-requires c κs = search needs
-
-value-requires : tie.Need-value-requires
-value-requires c κs = search needs
-
 returns : tie.Need-returns
 returns c = let p = c .before .before .before .pre in c .value .ensures ∙ ap countValue (c .before .erasure-count .ensures .0) ∙ marked-is _ _ (p .0) (p .1) (p .2)
 
 pub marked-spec : {M : Type 1} → statement M
-marked-spec = tie.close (tie.spec erasure-count-requires value-requires returns)
+marked-spec = tie.close (tie.spec (λ c κs. search needs) (λ c κs. search needs) returns)

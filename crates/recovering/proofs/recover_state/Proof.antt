@@ -40,12 +40,6 @@ slice-aggregate-recover-whole-3 c = let p = c .before .before .before .before .b
 recover-whole-requires : tie.Need-recover-whole-requires
 recover-whole-requires c κs = let p = c .before .before .before .before .before .before .before .before .before .before .pre in (lent-whole (p .0) (p .2), p .1, sym (zeros-long _ 4096 (omega (arith, good-bounds _ (p .0 .good (p .2))))))
 
-same-length : tie.Need-same-length
-same-length c = search needs
-
-same-length-2 : tie.Need-same-length-2
-same-length-2 c = search needs
-
 same-length-3 : tie.Need-same-length-3
 same-length-3 c = c .before .before .before .before .before .before .before .recover-whole .kept .1 .1 .1 .0
 
@@ -53,4 +47,4 @@ returns : tie.Need-returns
 returns c = let p = c .before .before .before .before .before .before .before .before .before .before .before .before .before .before .before .before .before .before .pre in let e = c .before .before .before .before .before .before .before .recover-whole in (recovered-acts (p .0) (p .2) _ _ (e .kept .1 .0) (e .kept .1 .1 .0) (e .ensures .0), e .ensures .1)
 
 pub recover-state-spec : {M : Type 1} → statement M
-recover-state-spec = tie.close (tie.spec mul-places add-bytes mul-rows slice-relend-prefix-recover-whole slice-aggregate-recover-whole slice-relend-prefix-recover-whole-2 slice-aggregate-recover-whole-2 array-borrow-prefix-witness slice-aggregate-recover-whole-3 recover-whole-requires same-length same-length-2 same-length-3 returns)
+recover-state-spec = tie.close (tie.spec mul-places add-bytes mul-rows slice-relend-prefix-recover-whole slice-aggregate-recover-whole slice-relend-prefix-recover-whole-2 slice-aggregate-recover-whole-2 array-borrow-prefix-witness slice-aggregate-recover-whole-3 recover-whole-requires (λ c. search needs) (λ c. search needs) same-length-3 returns)

@@ -7,18 +7,6 @@ use Rattle.promises.specs.Promises.{recoverLent}
 use Rattle.promises.specs.Building.{recovers-refused}
 use Rattle.deciding.specs.Attempts.{call-given, call-decided}
 
-check-call-requires : tie.Need-check-call-requires
-check-call-requires c κs = search needs
-
-enum-known-x : tie.Need-enum-known-x
-enum-known-x c = search needs
-
-enum-told : tie.Need-enum-told
-enum-told c = search needs
-
-slice-aggregate-decide : tie.Need-slice-aggregate-decide
-slice-aggregate-decide c = search needs
-
 decide-requires : tie.Need-decide-requires
 unfolding recoverLent
 decide-requires c κs = call-given _ _ _ _ (sym (c .before .before .before .before .before .before .check-call .ensures) ∙ c .before .before .before .before .enum-told .given .1)
@@ -41,10 +29,10 @@ pub recover-spec : {M : Type 1} → statement M
 recover-spec =
     tie.close
     (tie.spec
-    check-call-requires
-    enum-known-x
-    enum-told
-    slice-aggregate-decide
+    (λ c κs. search needs)
+    (λ c. search needs)
+    (λ c. search needs)
+    (λ c. search needs)
     decide-requires
     returns
     same-length

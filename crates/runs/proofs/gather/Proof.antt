@@ -21,20 +21,8 @@ full-requires c κs = c .before .before .before .pre .of .long
 mul-from : tie.Need-mul-from Inv-loop μ-loop
 mul-from c = let r = full-room (c .before .before .before .before .pre) (c .full .ensures) in omega arith
 
-sub-copy-bytes : tie.Need-sub-copy-bytes Inv-loop μ-loop
-sub-copy-bytes c = omega arith
-
-part-copy-bytes-start : tie.Need-part-copy-bytes-start Inv-loop μ-loop
-part-copy-bytes-start c = omega arith
-
 part-copy-bytes-end : tie.Need-part-copy-bytes-end Inv-loop μ-loop
 part-copy-bytes-end c = let r = full-room (c .before .before .before .before .pre) (c .full .ensures) in omega arith
-
-sub-copy-bytes-2 : tie.Need-sub-copy-bytes-2 Inv-loop μ-loop
-sub-copy-bytes-2 c = omega arith
-
-part-copy-bytes-start-2 : tie.Need-part-copy-bytes-start-2 Inv-loop μ-loop
-part-copy-bytes-start-2 c = omega arith
 
 part-copy-bytes-end-2 : tie.Need-part-copy-bytes-end-2 Inv-loop μ-loop
 part-copy-bytes-end-2 c = let r = full-room (c .before .before .before .before .before .pre) (c .before .full .ensures) in omega arith
@@ -51,9 +39,6 @@ mul-wide c = omega (arith, c .before .loop .inv .0 .of .long, c .before .before 
 shared-slice-read-wide : tie.Need-shared-slice-read-wide Inv-loop μ-loop
 shared-slice-read-wide c = omega (arith, c .before .before .loop .inv .0 .of .long)
 
-wide-requires : tie.Need-wide-requires Inv-loop μ-loop
-wide-requires c κs = search needs
-
 -- the parts of a turn lie within
 room : (c : tie.After-wide Inv-loop μ-loop) → (c .wide .result ≤ c .before .before .before .before .before .before .before .before .before .before .before .before .before .args .t) × (c .before .before .before .loop .from + c .before .before .before .before .before .before .before .before .before .before .before .before .before .args .t ≤ length (c .before .before .before .before .before .before .before .before .before .before .before .before .before .args .block .now)) × (c .before .before .before .loop .done + c .wide .result ≤ length (c .before .before .before .loop .message)) × (length (c .before .before .before .loop .message) ≡ length (c .before .before .before .before .before .before .before .before .before .before .before .before .before .args .message .now))
 room c =
@@ -67,20 +52,8 @@ add-end c = let r = room c in omega arith
 add-next : tie.Need-add-next Inv-loop μ-loop
 add-next c = let r = room c in omega arith
 
-sub-copy-bytes-3 : tie.Need-sub-copy-bytes-3 Inv-loop μ-loop
-sub-copy-bytes-3 c = omega arith
-
-part-copy-bytes-start-3 : tie.Need-part-copy-bytes-start-3 Inv-loop μ-loop
-part-copy-bytes-start-3 c = omega arith
-
 part-copy-bytes-end-3 : tie.Need-part-copy-bytes-end-3 Inv-loop μ-loop
 part-copy-bytes-end-3 c = let r = room c in omega arith
-
-sub-copy-bytes-4 : tie.Need-sub-copy-bytes-4 Inv-loop μ-loop
-sub-copy-bytes-4 c = omega arith
-
-part-copy-bytes-start-4 : tie.Need-part-copy-bytes-start-4 Inv-loop μ-loop
-part-copy-bytes-start-4 c = omega arith
 
 part-copy-bytes-end-4 : tie.Need-part-copy-bytes-end-4 Inv-loop μ-loop
 part-copy-bytes-end-4 c = let r = room (c .before) in omega arith
@@ -90,12 +63,6 @@ copy-bytes-requires-2 c κs = let r = room (c .before .before) in simp (length-t
 
 add-from : tie.Need-add-from Inv-loop μ-loop
 add-from c = let r = room (c .before .before .before .before .before) in omega arith
-
-add-j : tie.Need-add-j Inv-loop μ-loop
-add-j c = search needs
-
-loop-less : tie.Need-loop-less Inv-loop μ-loop
-loop-less c = search needs
 
 loop-again : tie.Need-loop-again Inv-loop μ-loop
 loop-again c =
@@ -116,29 +83,29 @@ gather-spec =
     μ-loop
     full-requires
     mul-from
-    sub-copy-bytes
-    part-copy-bytes-start
+    (λ c. omega arith)
+    (λ c. omega arith)
     part-copy-bytes-end
-    sub-copy-bytes-2
-    part-copy-bytes-start-2
+    (λ c. omega arith)
+    (λ c. omega arith)
     part-copy-bytes-end-2
     copy-bytes-requires
     loop-holds
     mul-wide
     shared-slice-read-wide
-    wide-requires
+    (λ c κs. search needs)
     add-end
     add-next
-    sub-copy-bytes-3
-    part-copy-bytes-start-3
+    (λ c. omega arith)
+    (λ c. omega arith)
     part-copy-bytes-end-3
-    sub-copy-bytes-4
-    part-copy-bytes-start-4
+    (λ c. omega arith)
+    (λ c. omega arith)
     part-copy-bytes-end-4
     copy-bytes-requires-2
     add-from
-    add-j
-    loop-less
+    (λ c. search needs)
+    (λ c. search needs)
     loop-again
     same-length
     returns)

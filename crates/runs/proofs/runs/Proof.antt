@@ -15,41 +15,8 @@ Inv-loop n t shifts r₀ last g₀ j₀ r g j = (last ≡ getD shifts (n - 1) 0)
 abbrev μ-loop : tie.MeasureT-loop
 μ-loop n t shifts r₀ last g₀ j₀ r g j = j
 
-sub-wide : tie.Need-sub-wide Inv-loop μ-loop
-sub-wide c = search needs
-
-mul-wide : tie.Need-mul-wide Inv-loop μ-loop
-mul-wide c = search needs
-
-shared-slice-read-wide : tie.Need-shared-slice-read-wide Inv-loop μ-loop
-shared-slice-read-wide c = search needs
-
-wide-requires : tie.Need-wide-requires Inv-loop μ-loop
-wide-requires c κs = search needs
-
-sub-j : tie.Need-sub-j Inv-loop μ-loop
-sub-j c = search needs
-
 loop-holds : tie.Need-loop-holds Inv-loop μ-loop
 loop-holds c = (search needs, subst (Known (c .before .before .before .before .args .n) (c .before .before .before .before .args .t) (c .before .before .before .before .args .shifts .now) _ _) (sym (c .before .before .before .before .pre .1)) (known-start _ _ _ (c .before .before .before .before .pre .0) refl))
-
-sub-j-2 : tie.Need-sub-j-2 Inv-loop μ-loop
-sub-j-2 c = search needs
-
-mul-wide-2 : tie.Need-mul-wide-2 Inv-loop μ-loop
-mul-wide-2 c = search needs
-
-shared-slice-read-wide-2 : tie.Need-shared-slice-read-wide-2 Inv-loop μ-loop
-shared-slice-read-wide-2 c = search needs
-
-wide-requires-2 : tie.Need-wide-requires-2 Inv-loop μ-loop
-wide-requires-2 c κs = search needs
-
-gap-requires : tie.Need-gap-requires Inv-loop μ-loop
-gap-requires c κs = search needs
-
-share-requires : tie.Need-share-requires Inv-loop μ-loop
-share-requires c κs = search needs
 
 sub-r : tie.Need-sub-r Inv-loop μ-loop
 sub-r c =
@@ -66,15 +33,6 @@ cast-r c =
     let k = known-fits _ _ _ (c .before .before .before .before .before .before .before .before .before .before .pre .0) (c .before .gap .result) (c .before .before .before .before .before .loop .inv .1) in
     omega (arith, k .0, k .1, c .share .ensures, c .before .before .before .before .before .before .before .before .before .before .pre .0 .t-max)
 
-mul-r : tie.Need-mul-r Inv-loop μ-loop
-mul-r c = search needs
-
-slice-write-r : tie.Need-slice-write-r Inv-loop μ-loop
-slice-write-r c = search needs
-
-loop-less : tie.Need-loop-less Inv-loop μ-loop
-loop-less c = search needs
-
 loop-again : tie.Need-loop-again Inv-loop μ-loop
 loop-again c =
     let inv = c .before .before .before .before .before .loop .inv in (
@@ -83,9 +41,6 @@ loop-again c =
           (c .share .ensures ∙ ap (λ (x : ℕ). gcd x (c .before .before .before .before .before .loop .g)) (c .before .gap .ensures ∙ ap₂ gap (c .before .before .wide2 .ensures) (inv .0)))
           refl refl,
     )
-
-same-length : tie.Need-same-length Inv-loop μ-loop
-same-length c = search needs
 
 returns : tie.Need-returns Inv-loop μ-loop
 returns c = known-end _ _ _ (c .before .before .before .before .before .before .pre .0) (c .before .loop .inv .1) (omega arith)
@@ -96,24 +51,24 @@ runs-spec =
     (tie.spec
     Inv-loop
     μ-loop
-    sub-wide
-    mul-wide
-    shared-slice-read-wide
-    wide-requires
-    sub-j
+    (λ c. search needs)
+    (λ c. search needs)
+    (λ c. search needs)
+    (λ c κs. search needs)
+    (λ c. search needs)
     loop-holds
-    sub-j-2
-    mul-wide-2
-    shared-slice-read-wide-2
-    wide-requires-2
-    gap-requires
-    share-requires
+    (λ c. search needs)
+    (λ c. search needs)
+    (λ c. search needs)
+    (λ c κs. search needs)
+    (λ c κs. search needs)
+    (λ c κs. search needs)
     sub-r
     add-r
     cast-r
-    mul-r
-    slice-write-r
-    loop-less
+    (λ c. search needs)
+    (λ c. search needs)
+    (λ c. search needs)
     loop-again
-    same-length
+    (λ c. search needs)
     returns)

@@ -18,11 +18,5 @@ gcd-one a {g} e =
 returns : tie.Need-returns
 returns c = gcd-one _ (omega arith)
 
-gcd-requires : tie.Need-gcd-requires
-gcd-requires c κs = search needs
-
-returns-2 : tie.Need-returns-2
-returns-2 c = search needs
-
 pub share-spec : {M : Type 1} → statement M
-share-spec = tie.close (tie.spec returns gcd-requires returns-2)
+share-spec = tie.close (tie.spec returns (λ c κs. search needs) (λ c. search needs))

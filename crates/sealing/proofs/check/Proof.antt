@@ -10,18 +10,6 @@ use borrow.Author.Needs.{needs}
 use Rattle.sealing.proofs.check.Statement.{statement}
 use Rattle.sealing.proofs.check.Tie as tie
 
-check-requires : tie.Need-check-requires
-check-requires c κs = search needs
-
-enum-known-x : tie.Need-enum-known-x
-enum-known-x c = search needs
-
-enum-told : tie.Need-enum-told
-enum-told c = search needs
-
-slice-aggregate-runs : tie.Need-slice-aggregate-runs
-slice-aggregate-runs c = search needs
-
 runs-requires : tie.Need-runs-requires
 runs-requires c κs = (good-bounds _ (sym (c .before .before .before .before .check .ensures) ∙ c .before .before .enum-told .given .1), c .before .before .before .before .before .before .before .before .before .pre)
 
@@ -33,26 +21,11 @@ run-total-requires c κs =
 lengths-fit-requires : tie.Need-lengths-fit-requires
 lengths-fit-requires c κs = let g = good-bounds _ (sym (c .before .before .before .before .before .before .before .before .before .check .ensures) ∙ c .before .before .before .before .before .before .before .enum-told .given .1) in (g .places-max, g .t-max)
 
-mul-check-lent : tie.Need-mul-check-lent
-mul-check-lent c = search needs
-
-sub-check-lent : tie.Need-sub-check-lent
-sub-check-lent c = search needs
-
-part-check-lent-start : tie.Need-part-check-lent-start
-part-check-lent-start c = search needs
-
-part-check-lent-end : tie.Need-part-check-lent-end
-part-check-lent-end c = search needs
-
 check-lent-requires : tie.Need-check-lent-requires
 check-lent-requires c κs = good-bounds _ (sym (c .before .before .before .before .before .before .before .before .before .before .before .check .ensures) ∙ c .before .before .before .before .before .before .before .before .before .enum-told .given .1) .places-max
 
 returns : tie.Need-returns
 returns c = checks-stop _ _ _ (sym (c .before .before .before .check .ensures) ∙ c .before .x .given .1)
-
-same-length : tie.Need-same-length
-same-length c = search needs
 
 returns-2 : tie.Need-returns-2
 unfolding messageLent
@@ -62,18 +35,18 @@ pub check-spec : {M : Type 1} → statement M
 check-spec =
     tie.close
     (tie.spec
-    check-requires
-    enum-known-x
-    enum-told
-    slice-aggregate-runs
+    (λ c κs. search needs)
+    (λ c. search needs)
+    (λ c. search needs)
+    (λ c. search needs)
     runs-requires
     run-total-requires
     lengths-fit-requires
-    mul-check-lent
-    sub-check-lent
-    part-check-lent-start
-    part-check-lent-end
+    (λ c. search needs)
+    (λ c. search needs)
+    (λ c. search needs)
+    (λ c. search needs)
     check-lent-requires
     returns
-    same-length
+    (λ c. search needs)
     returns-2)

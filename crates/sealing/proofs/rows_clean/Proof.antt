@@ -5,9 +5,6 @@ use Rattle.sealing.specs.Reading.{sums-room, sums-same, tells-codeword}
 use Rattle.sealing.proofs.rows_clean.Statement.{statement}
 use Rattle.sealing.proofs.rows_clean.Tie as tie
 
-mul-rows : tie.Need-mul-rows
-mul-rows c = search needs
-
 slice-relend-prefix-syndromes : tie.Need-slice-relend-prefix-syndromes
 slice-relend-prefix-syndromes c = zeros-room (c .before .before .before .pre .1)
 
@@ -23,12 +20,6 @@ slice-reshare-prefix-zero-bytes c = sums-room (c .before .before .syndromes .ens
 slice-aggregate-zero-bytes : tie.Need-slice-aggregate-zero-bytes
 slice-aggregate-zero-bytes c = front-long _ _ (sums-room (c .before .before .before .syndromes .ensures) _)
 
-zero-bytes-requires : tie.Need-zero-bytes-requires
-zero-bytes-requires c κs = search needs
-
-same-length : tie.Need-same-length
-same-length c = search needs
-
 returns : tie.Need-returns
 returns c = tells-codeword _ _ _ _ (c .before .before .before .before .before .before .before .before .before .pre .0 .1) (λ i. c .before .before .before .before .before .before .before .shared-slice-known2 .given i .fits) (c .before .before .before .before .syndromes .ensures) (sums-same (c .before .before .before .before .syndromes .ensures) _) (c .zero-bytes .ensures)
 
@@ -36,12 +27,12 @@ pub rows-clean-spec : {M : Type 1} → statement M
 rows-clean-spec =
     tie.close
     (tie.spec
-    mul-rows
+    (λ c. search needs)
     slice-relend-prefix-syndromes
     slice-aggregate-syndromes
     syndromes-requires
     slice-reshare-prefix-zero-bytes
     slice-aggregate-zero-bytes
-    zero-bytes-requires
-    same-length
+    (λ c κs. search needs)
+    (λ c. search needs)
     returns)

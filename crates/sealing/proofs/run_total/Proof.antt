@@ -18,23 +18,8 @@ loop-holds : tie.Need-loop-holds Inv-loop μ-loop
 unfolding total
 loop-holds c = (omega arith, refl, omega arith)
 
-mul-wide : tie.Need-mul-wide Inv-loop μ-loop
-mul-wide c = search needs
-
-shared-slice-read-wide : tie.Need-shared-slice-read-wide Inv-loop μ-loop
-shared-slice-read-wide c = search needs
-
-wide-requires : tie.Need-wide-requires Inv-loop μ-loop
-wide-requires c κs = search needs
-
 add-sum : tie.Need-add-sum Inv-loop μ-loop
 add-sum c = omega (arith, c .wide .ensures, c .before .shared-slice-known2 .given (c .before .before .before .loop .j))
-
-add-j : tie.Need-add-j Inv-loop μ-loop
-add-j c = search needs
-
-loop-less : tie.Need-loop-less Inv-loop μ-loop
-loop-less c = search needs
 
 loop-again : tie.Need-loop-again Inv-loop μ-loop
 loop-again c =
@@ -48,4 +33,4 @@ returns : tie.Need-returns Inv-loop μ-loop
 returns c = let e : c .before .loop .j ≡ c .before .before .before .args .n = omega arith in c .before .loop .inv .1 ∙ ap (total _) e
 
 pub run-total-spec : {M : Type 1} → statement M
-run-total-spec = tie.close (tie.spec Inv-loop μ-loop loop-holds mul-wide shared-slice-read-wide wide-requires add-sum add-j loop-less loop-again returns)
+run-total-spec = tie.close (tie.spec Inv-loop μ-loop loop-holds (λ c. search needs) (λ c. search needs) (λ c κs. search needs) add-sum (λ c. search needs) (λ c. search needs) loop-again returns)

@@ -13,12 +13,6 @@ sub-perform c = omega (arith, c .before .before .before .before .before .before 
 part-perform-start : tie.Need-part-perform-start
 part-perform-start c = omega (arith, c .before .before .before .before .before .before .before .before .before .pre .0 .1 .inside)
 
-part-perform-end : tie.Need-part-perform-end
-part-perform-end c = search needs
-
-perform-requires : tie.Need-perform-requires
-perform-requires c κs = search needs
-
 put-turn-requires : tie.Need-put-turn-requires
 put-turn-requires c κs =
     let s = c .before .before .before .before .before .before .before .before .before .before .before .before .before .before .before .before .before .before .before in
@@ -35,9 +29,6 @@ same-length-2 c = c .before .before .before .before .before .before .before .bef
 same-length-3 : tie.Need-same-length-3
 same-length-3 c = c .before .before .before .before .before .before .before .before .before .before .before .perform .kept .1 .1 .1 .0
 
-same-length-4 : tie.Need-same-length-4
-same-length-4 c = search needs
-
 returns : tie.Need-returns
 returns c =
     let s = c .before .before .before .before .before .before .before .before .before .before .before .before .before .before .before .before .before .before .before .before .before .before in
@@ -50,4 +41,4 @@ returns c =
     )
 
 pub next-spec : {M : Type 1} → statement M
-next-spec = tie.close (tie.spec sub-perform part-perform-start part-perform-end perform-requires put-turn-requires same-length same-length-2 same-length-3 same-length-4 returns)
+next-spec = tie.close (tie.spec sub-perform part-perform-start (λ c. search needs) (λ c κs. search needs) put-turn-requires same-length same-length-2 same-length-3 (λ c. search needs) returns)

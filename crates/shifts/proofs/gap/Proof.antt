@@ -5,9 +5,6 @@ use native.Mathlib.Omega.{arith}
 use Rattle.shifts.proofs.gap.Statement.{statement}
 use Rattle.shifts.proofs.gap.Tie as tie
 
-sub-result : tie.Need-sub-result
-sub-result c = search needs
-
 returns : tie.Need-returns
 unfolding gap
 returns c = omega arith
@@ -17,4 +14,4 @@ unfolding gap
 returns-2 c = omega arith
 
 pub gap-spec : {M : Type 1} → statement M
-gap-spec = tie.close (tie.spec sub-result returns returns-2)
+gap-spec = tie.close (tie.spec (λ c. search needs) returns returns-2)

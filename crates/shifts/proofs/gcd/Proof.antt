@@ -15,12 +15,6 @@ Inv-loop a b x₀ y₀ x y = gcd x y ≡ gcd a b
 abbrev μ-loop : tie.MeasureT-loop
 μ-loop a b x₀ y₀ x y = y
 
-loop-holds : tie.Need-loop-holds Inv-loop μ-loop
-loop-holds c = refl
-
-rem-rest : tie.Need-rem-rest Inv-loop μ-loop
-rem-rest c = search needs
-
 loop-less : tie.Need-loop-less Inv-loop μ-loop
 loop-less c = mod-lt _ (omega arith)
 
@@ -31,4 +25,4 @@ returns : tie.Need-returns Inv-loop μ-loop
 returns c = sym (ap (λ (y : ℕ). gcd (c .before .loop .x) y) (c .loop-test .left) ∙ gcd-zero-right _) ∙ c .before .loop .inv
 
 pub gcd-spec : {M : Type 1} → statement M
-gcd-spec = tie.close (tie.spec Inv-loop μ-loop loop-holds rem-rest loop-less loop-again returns)
+gcd-spec = tie.close (tie.spec Inv-loop μ-loop (λ c. refl) (λ c. search needs) loop-less loop-again returns)

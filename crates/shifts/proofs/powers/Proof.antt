@@ -17,12 +17,6 @@ Inv-loop n t q a₀ base power₀ i₀ a power i = (i ≤ n) × (power ≡ q ^ i
 abbrev μ-loop : tie.MeasureT-loop
 μ-loop n t q a₀ base power₀ i₀ a power i = n - i
 
-rem-base : tie.Need-rem-base Inv-loop μ-loop
-rem-base c = search needs
-
-rem-power : tie.Need-rem-power Inv-loop μ-loop
-rem-power c = search needs
-
 loop-holds : tie.Need-loop-holds Inv-loop μ-loop
 unfolding upTo
 loop-holds c = (search needs, ap (λ (x : ℕ). x % c .args .t) (sym (pow-zero (c .args .q))), padded-none)
@@ -33,12 +27,6 @@ cast-a c =
     let h = mod-lt (c .before .before .args .q ^ c .before .loop .i) (c .before .before .pre .1) in
     omega arith
 
-mul-a : tie.Need-mul-a Inv-loop μ-loop
-mul-a c = search needs
-
-array-write-a : tie.Need-array-write-a Inv-loop μ-loop
-array-write-a c = search needs
-
 mul-power : tie.Need-mul-power Inv-loop μ-loop
 mul-power c =
     let e = c .before .loop .inv .1 in
@@ -47,15 +35,6 @@ mul-power c =
     let a : c .before .loop .power ≤ 2048 = omega arith in
     let b : c .before .before .args .q % c .before .before .args .t ≤ 2048 = omega arith in
     omega (arith, mul-le-mul a b)
-
-rem-power-2 : tie.Need-rem-power-2 Inv-loop μ-loop
-rem-power-2 c = search needs
-
-add-i : tie.Need-add-i Inv-loop μ-loop
-add-i c = search needs
-
-loop-less : tie.Need-loop-less Inv-loop μ-loop
-loop-less c = search needs
 
 loop-again : tie.Need-loop-again Inv-loop μ-loop
 loop-again c = (
@@ -76,15 +55,15 @@ powers-spec =
     (tie.spec
     Inv-loop
     μ-loop
-    rem-base
-    rem-power
+    (λ c. search needs)
+    (λ c. search needs)
     loop-holds
     cast-a
-    mul-a
-    array-write-a
+    (λ c. search needs)
+    (λ c. search needs)
     mul-power
-    rem-power-2
-    add-i
-    loop-less
+    (λ c. search needs)
+    (λ c. search needs)
+    (λ c. search needs)
     loop-again
     returns)

@@ -7,23 +7,8 @@ use borrow.Author.Needs.{needs}
 use Rattle.standing.proofs.check_held.Statement.{statement}
 use Rattle.standing.proofs.check_held.Tie as tie
 
-buffers-fit-requires : tie.Need-buffers-fit-requires
-buffers-fit-requires c κs = search needs
-
-check-lent-requires : tie.Need-check-lent-requires
-check-lent-requires c κs = search needs
-
 returns : tie.Need-returns
 returns c = no-plan _ _ _ _ (c .before .if1 .taken) (c .before .before .buffers-fit .ensures) (c .check-lent .ensures)
-
-check-requires : tie.Need-check-requires
-check-requires c κs = search needs
-
-enum-known-x : tie.Need-enum-known-x
-enum-known-x c = search needs
-
-enum-told : tie.Need-enum-told
-enum-told c = search needs
 
 mul-check-lent : tie.Need-mul-check-lent
 mul-check-lent c = omega (arith, good-bounds _ (sym (c .before .before .before .check .ensures) ∙ c .before .enum-told .given .1))
@@ -41,12 +26,12 @@ pub check-held-spec : {M : Type 1} → statement M
 check-held-spec =
     tie.close
     (tie.spec
-    buffers-fit-requires
-    check-lent-requires
+    (λ c κs. search needs)
+    (λ c κs. search needs)
     returns
-    check-requires
-    enum-known-x
-    enum-told
+    (λ c κs. search needs)
+    (λ c. search needs)
+    (λ c. search needs)
     mul-check-lent
     check-lent-requires-2
     returns-2

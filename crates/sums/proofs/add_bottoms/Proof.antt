@@ -47,20 +47,8 @@ add-b c = omega (arith, sections-fit (c .before .before .before .before .before 
 add-end : tie.Need-add-end Inv-loop μ-loop
 add-end c = omega (arith, sections-fit (c .before .before .before .before .before .before .before .args .n) (c .before .before .before .before .before .before .before .args .t) (c .before .before .before .loop .j) (c .before .before .before .loop .a) (c .before .before .loop-test .taken) (c .before .before .before .loop .inv .1), c .before .before .before .before .before .before .before .pre .0 .places-max)
 
-sub-add-two : tie.Need-sub-add-two Inv-loop μ-loop
-sub-add-two c = omega arith
-
-part-add-two-start : tie.Need-part-add-two-start Inv-loop μ-loop
-part-add-two-start c = omega arith
-
 part-add-two-end : tie.Need-part-add-two-end Inv-loop μ-loop
 part-add-two-end c = omega (arith, sections-fit (c .before .before .before .before .before .before .before .args .n) (c .before .before .before .before .before .before .before .args .t) (c .before .before .before .loop .j) (c .before .before .before .loop .a) (c .before .before .loop-test .taken) (c .before .before .before .loop .inv .1), c .before .before .before .before .before .before .before .pre .1)
-
-sub-add-two-2 : tie.Need-sub-add-two-2 Inv-loop μ-loop
-sub-add-two-2 c = omega arith
-
-part-add-two-start-2 : tie.Need-part-add-two-start-2 Inv-loop μ-loop
-part-add-two-start-2 c = omega arith
 
 part-add-two-end-2 : tie.Need-part-add-two-end-2 Inv-loop μ-loop
 part-add-two-end-2 c = omega (arith, sections-fit (c .before .before .before .before .before .before .before .before .args .n) (c .before .before .before .before .before .before .before .before .args .t) (c .before .before .before .before .loop .j) (c .before .before .before .before .loop .a) (c .before .before .before .loop-test .taken) (c .before .before .before .before .loop .inv .1), c .before .before .before .before .before .before .before .before .pre .1)
@@ -70,9 +58,6 @@ add-two-requires c κs = (c .before .before .before .before .before .before .bef
 
 add-j : tie.Need-add-j Inv-loop μ-loop
 add-j c = omega (arith, c .before .before .before .before .before .before .before .before .before .before .before .before .before .pre .0 .n-max)
-
-loop-less : tie.Need-loop-less Inv-loop μ-loop
-loop-less c = omega arith
 
 loop-again : tie.Need-loop-again Inv-loop μ-loop
 loop-again c = (omega arith, omega (arith, add-mul (c .before .before .before .before .before .before .before .before .before .loop .j) 2 (c .before .before .before .before .before .before .before .before .before .before .before .before .before .args .t)), turned-two (c .before .before .before .before .before .before .before .before .before .before .before .before .before .args .t) (c .before .before .before .before .before .before .before .before .before .loop .j) (c .before .before .before .before .before .before .before .before .before .before .before .before .before .args .shifts .now) (c .before .before .before .before .before .before .before .before .before .before .before .before .before .args .block .now) (c .before .before .before .before .before .before .before .before .before .before .before .before .before .pre .0 .t-min) (c .before .before .before .before .before .before .before .before .before .loop .inv .2) _ _ (section-part (c .before .before .before .before .before .before .before .before .before .before .before .before .before .args .t) (c .before .before .before .before .before .before .before .before .before .loop .j) (c .before .before .before .before .before .before .before .before .before .loop .a) (c .before .before .before .before .before .before .before .before .before .before .before .before .before .args .block .now) (c .before .before .before .before .before .before .before .before .before .loop .inv .1)) (section-part (c .before .before .before .before .before .before .before .before .before .before .before .before .before .args .t) (c .before .before .before .before .before .before .before .before .before .loop .j + 1) (c .before .before .before .before .before .before .before .before .before .loop .a + c .before .before .before .before .before .before .before .before .before .before .before .before .before .args .t) (c .before .before .before .before .before .before .before .before .before .before .before .before .before .args .block .now) (omega (arith, one-more (c .before .before .before .before .before .before .before .before .before .loop .j) (c .before .before .before .before .before .before .before .before .before .before .before .before .before .args .t), c .before .before .before .before .before .before .before .before .before .loop .inv .1))) (c .before .before .add-two .ensures))
@@ -94,12 +79,6 @@ cast-p-2 c = omega (arith, c .shared-slice-known5 .given (c .before .before .bef
 
 add-end-2 : tie.Need-add-end-2 Inv-loop μ-loop
 add-end-2 c = omega (arith, section-fits (c .before .before .before .before .before .before .before .args .n) (c .before .before .before .before .before .before .before .args .t) (c .before .before .before .loop .j) (c .before .before .before .loop .a) (omega arith) (c .before .before .before .loop .inv .1), c .before .before .before .before .before .before .before .pre .0 .places-max)
-
-sub-add-turned : tie.Need-sub-add-turned Inv-loop μ-loop
-sub-add-turned c = omega arith
-
-part-add-turned-start : tie.Need-part-add-turned-start Inv-loop μ-loop
-part-add-turned-start c = omega arith
 
 part-add-turned-end : tie.Need-part-add-turned-end Inv-loop μ-loop
 part-add-turned-end c = omega (arith, section-fits (c .before .before .before .before .before .before .before .args .n) (c .before .before .before .before .before .before .before .args .t) (c .before .before .before .loop .j) (c .before .before .before .loop .a) (omega arith) (c .before .before .before .loop .inv .1), c .before .before .before .before .before .before .before .pre .1)
@@ -130,15 +109,15 @@ add-bottoms-spec =
     cast-q
     add-b
     add-end
-    sub-add-two
-    part-add-two-start
+    (λ c. omega arith)
+    (λ c. omega arith)
     part-add-two-end
-    sub-add-two-2
-    part-add-two-start-2
+    (λ c. omega arith)
+    (λ c. omega arith)
     part-add-two-end-2
     add-two-requires
     add-j
-    loop-less
+    (λ c. omega arith)
     loop-again
     same-length
     returns
@@ -146,8 +125,8 @@ add-bottoms-spec =
     shared-slice-read-p-2
     cast-p-2
     add-end-2
-    sub-add-turned
-    part-add-turned-start
+    (λ c. omega arith)
+    (λ c. omega arith)
     part-add-turned-end
     add-turned-requires
     same-length-2

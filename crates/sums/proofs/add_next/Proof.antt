@@ -10,35 +10,11 @@ use Rattle.sums.proofs.add_next.Tie as tie
 add-eight-requires : tie.Need-add-eight-requires
 add-eight-requires c κs = (fewer-fit 8 (c .before .before .before .before .args .left) (c .before .before .before .before .args .t) _ (omega arith) (c .before .before .before .before .pre .1), c .before .before .before .before .pre .2)
 
-same-length : tie.Need-same-length
-same-length c = search needs
-
-returns : tie.Need-returns
-returns c = search needs
-
 add-three-requires : tie.Need-add-three-requires
 add-three-requires c κs = (fewer-fit 3 (c .before .before .before .before .before .args .left) (c .before .before .before .before .before .args .t) _ (omega arith) (c .before .before .before .before .before .pre .1), c .before .before .before .before .before .pre .2)
 
-same-length-2 : tie.Need-same-length-2
-same-length-2 c = search needs
-
-returns-2 : tie.Need-returns-2
-returns-2 c = search needs
-
-sub-xor-into : tie.Need-sub-xor-into
-sub-xor-into c = search needs
-
-part-xor-into-start : tie.Need-part-xor-into-start
-part-xor-into-start c = search needs
-
 part-xor-into-end : tie.Need-part-xor-into-end
 part-xor-into-end c = omega (arith, fewer-fit 1 (c .before .before .before .before .before .args .left) (c .before .before .before .before .before .args .t) (length (c .before .before .before .before .before .args .rest .now)) (c .before .before .before .before .before .pre .0) (c .before .before .before .before .before .pre .1))
-
-xor-into-requires : tie.Need-xor-into-requires
-xor-into-requires c κs = search needs
-
-same-length-3 : tie.Need-same-length-3
-same-length-3 c = search needs
 
 returns-3 : tie.Need-returns-3
 returns-3 c = record { some = omega arith; most = c .before .before .before .before .before .before .before .before .before .pre .0; sums = first-added (c .before .before .before .before .before .before .before .before .before .args .t) (c .before .before .before .before .before .before .before .before .before .args .rest .now) _ refl (c .before .before .before .before .before .before .before .before .before .pre .2) (c .before .before .xor-into .ensures) }
@@ -48,14 +24,14 @@ add-next-spec =
     tie.close
     (tie.spec
     add-eight-requires
-    same-length
-    returns
+    (λ c. search needs)
+    (λ c. search needs)
     add-three-requires
-    same-length-2
-    returns-2
-    sub-xor-into
-    part-xor-into-start
+    (λ c. search needs)
+    (λ c. search needs)
+    (λ c. search needs)
+    (λ c. search needs)
     part-xor-into-end
-    xor-into-requires
-    same-length-3
+    (λ c κs. search needs)
+    (λ c. search needs)
     returns-3)

@@ -18,36 +18,6 @@ abbrev μ-loop : tie.MeasureT-loop
 loop-holds : tie.Need-loop-holds Inv-loop μ-loop
 loop-holds c = (omega arith, mapped-none (added (straight (c .args .t) (c .args .sections .now)) 3) (c .args .top .now))
 
-slice-read-top : tie.Need-slice-read-top Inv-loop μ-loop
-slice-read-top c = omega arith
-
-shared-slice-read-top : tie.Need-shared-slice-read-top Inv-loop μ-loop
-shared-slice-read-top c = omega arith
-
-add-top : tie.Need-add-top Inv-loop μ-loop
-add-top c = omega arith
-
-shared-slice-read-top-2 : tie.Need-shared-slice-read-top-2 Inv-loop μ-loop
-shared-slice-read-top-2 c = omega arith
-
-mul-top : tie.Need-mul-top Inv-loop μ-loop
-mul-top c = omega arith
-
-add-top-2 : tie.Need-add-top-2 Inv-loop μ-loop
-add-top-2 c = omega arith
-
-shared-slice-read-top-3 : tie.Need-shared-slice-read-top-3 Inv-loop μ-loop
-shared-slice-read-top-3 c = omega arith
-
-slice-write-top : tie.Need-slice-write-top Inv-loop μ-loop
-slice-write-top c = omega arith
-
-add-i : tie.Need-add-i Inv-loop μ-loop
-add-i c = omega arith
-
-loop-less : tie.Need-loop-less Inv-loop μ-loop
-loop-less c = omega arith
-
 loop-again : tie.Need-loop-again Inv-loop μ-loop
 unfolding _⊕_
 loop-again c = (omega arith, mapped-more _ (c .before .before .before .before .before .loop .inv .1) (omega arith) (ap (set (c .before .before .before .before .before .loop .top) (c .before .before .before .before .before .loop .i)) (three-added (c .before .before .before .before .before .before .args .t) (c .before .before .before .before .before .before .args .sections .now) (c .before .before .before .before .before .loop .i) (getD (c .before .before .before .before .before .loop .top) (c .before .before .before .before .before .loop .i) 0))))
@@ -65,16 +35,16 @@ add-three-spec =
     Inv-loop
     μ-loop
     loop-holds
-    slice-read-top
-    shared-slice-read-top
-    add-top
-    shared-slice-read-top-2
-    mul-top
-    add-top-2
-    shared-slice-read-top-3
-    slice-write-top
-    add-i
-    loop-less
+    (λ c. omega arith)
+    (λ c. omega arith)
+    (λ c. omega arith)
+    (λ c. omega arith)
+    (λ c. omega arith)
+    (λ c. omega arith)
+    (λ c. omega arith)
+    (λ c. omega arith)
+    (λ c. omega arith)
+    (λ c. omega arith)
     loop-again
     same-length
     returns)

@@ -18,9 +18,6 @@ abbrev μ-loop : tie.MeasureT-loop
 loop-holds : tie.Need-loop-holds Inv-loop μ-loop
 loop-holds c = (omega arith, omega arith, added-none (straight (c .before .before .args .t) (c .before .before .args .block .now)) (c .before .before .args .top .now))
 
-sub-add-next : tie.Need-sub-add-next Inv-loop μ-loop
-sub-add-next c = omega arith
-
 sub-add-next-2 : tie.Need-sub-add-next-2 Inv-loop μ-loop
 sub-add-next-2 c = omega (arith, group-fits (c .before .before .before .before .args .n) (c .before .before .before .before .args .t) (c .before .loop .j) (c .before .loop .a) 0 (c .before .loop .inv .0) (omega arith) (c .before .loop .inv .1), c .before .before .before .before .pre .0)
 
@@ -61,7 +58,7 @@ add-tops-spec =
     Inv-loop
     μ-loop
     loop-holds
-    sub-add-next
+    (λ c. omega arith)
     sub-add-next-2
     part-add-next-start
     part-add-next-end

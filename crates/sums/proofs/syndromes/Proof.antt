@@ -7,35 +7,11 @@ use Rattle.tables.specs.Zeros.{zeros-long}
 use Rattle.sums.proofs.syndromes.Statement.{statement}
 use Rattle.sums.proofs.syndromes.Tie as tie
 
-mul-end : tie.Need-mul-end
-mul-end c = search needs
-
-sub-add-tops : tie.Need-sub-add-tops
-sub-add-tops c = search needs
-
-part-add-tops-start : tie.Need-part-add-tops-start
-part-add-tops-start c = search needs
-
 part-add-tops-end : tie.Need-part-add-tops-end
 part-add-tops-end c = omega (arith, zeros-long (c .before .before .before .args .t) (c .before .before .before .args .sum .now) (c .before .before .before .pre .2))
 
-add-tops-requires : tie.Need-add-tops-requires
-add-tops-requires c κs = search needs
-
-sub-add-bottoms : tie.Need-sub-add-bottoms
-sub-add-bottoms c = search needs
-
-part-add-bottoms-start : tie.Need-part-add-bottoms-start
-part-add-bottoms-start c = search needs
-
 part-add-bottoms-end : tie.Need-part-add-bottoms-end
 part-add-bottoms-end c = omega (arith, zeros-long (c .before .before .before .before .before .before .before .args .t) (c .before .before .before .before .before .before .before .args .sum .now) (c .before .before .before .before .before .before .before .pre .2))
-
-add-bottoms-requires : tie.Need-add-bottoms-requires
-add-bottoms-requires c κs = search needs
-
-same-length : tie.Need-same-length
-same-length c = search needs
 
 returns : tie.Need-returns
 returns c = both-halves (c .before .before .before .before .before .before .before .before .before .before .before .args .n) (c .before .before .before .before .before .before .before .before .before .before .before .args .t) (c .before .before .before .before .before .before .before .before .before .before .before .args .shifts .now) (c .before .before .before .before .before .before .before .before .before .before .before .args .block .now) (c .before .before .before .before .before .before .before .before .before .before .before .args .sum .now) _ _ _ _ (c .before .before .before .before .before .before .before .before .before .before .before .pre .0) (c .before .before .before .before .before .before .before .before .before .before .before .pre .2) refl (c .before .before .before .before .before .before .add-tops .ensures) refl (c .before .before .add-bottoms .ensures)
@@ -44,14 +20,14 @@ pub syndromes-spec : {M : Type 1} → statement M
 syndromes-spec =
     tie.close
     (tie.spec
-    mul-end
-    sub-add-tops
-    part-add-tops-start
+    (λ c. search needs)
+    (λ c. search needs)
+    (λ c. search needs)
     part-add-tops-end
-    add-tops-requires
-    sub-add-bottoms
-    part-add-bottoms-start
+    (λ c κs. search needs)
+    (λ c. search needs)
+    (λ c. search needs)
     part-add-bottoms-end
-    add-bottoms-requires
-    same-length
+    (λ c κs. search needs)
+    (λ c. search needs)
     returns)

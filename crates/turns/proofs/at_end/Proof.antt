@@ -13,11 +13,8 @@ returns c = λ v m b o p. on-nothing-yet p (not-true _ (c .if1 .taken)) refl (sa
 end-line-requires : tie.Need-end-line-requires
 end-line-requires c κs = omega (arith, c .before .before .before .pre)
 
-same-length : tie.Need-same-length
-same-length c = search needs
-
 returns-2 : tie.Need-returns-2
 returns-2 c = λ v m b o p. on-end p (not-false _ (c .before .before .before .before .if1 .left)) (says-end _ (c .before .before .end-line .ensures)) (same _ _ _)
 
 pub at-end-spec : {M : Type 1} → statement M
-at-end-spec = tie.close (tie.spec returns end-line-requires same-length returns-2)
+at-end-spec = tie.close (tie.spec returns end-line-requires (λ c. search needs) returns-2)

@@ -5,11 +5,8 @@ use borrow.Author.Needs.{needs}
 use Rattle.turns.proofs.start.Statement.{statement}
 use Rattle.turns.proofs.start.Tie as tie
 
-none-requires : tie.Need-none-requires
-none-requires c κs = search needs
-
 returns : tie.Need-returns
 returns c = ap withoutPlan (c .none .ensures)
 
 pub start-spec : {M : Type 1} → statement M
-start-spec = tie.close (tie.spec none-requires returns)
+start-spec = tie.close (tie.spec (λ c κs. search needs) returns)

@@ -5,17 +5,8 @@ use borrow.Author.Needs.{needs}
 use Rattle.turns.proofs.stop.Statement.{statement}
 use Rattle.turns.proofs.stop.Tie as tie
 
-number-requires : tie.Need-number-requires
-number-requires c κs = search needs
-
-refused-line-requires : tie.Need-refused-line-requires
-refused-line-requires c κs = search needs
-
-same-length : tie.Need-same-length
-same-length c = search needs
-
 returns : tie.Need-returns
 returns c = (refl, says-refused _ _ _ (c .before .before .before .number .ensures) (c .before .before .refused-line .ensures))
 
 pub stop-spec : {M : Type 1} → statement M
-stop-spec = tie.close (tie.spec number-requires refused-line-requires same-length returns)
+stop-spec = tie.close (tie.spec (λ c κs. search needs) (λ c κs. search needs) (λ c. search needs) returns)

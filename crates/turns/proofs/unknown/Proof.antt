@@ -5,14 +5,8 @@ use borrow.Author.Needs.{needs}
 use Rattle.turns.proofs.unknown.Statement.{statement}
 use Rattle.turns.proofs.unknown.Tie as tie
 
-stop-requires : tie.Need-stop-requires
-stop-requires c κs = search needs
-
-same-length : tie.Need-same-length
-same-length c = search needs
-
 returns : tie.Need-returns
 returns c = λ v m b last p. on-unknown p (c .before .before .stop .ensures .1) (record { held = c .before .before .stop .ensures .0; block = refl; marks = refl })
 
 pub unknown-spec : {M : Type 1} → statement M
-unknown-spec = tie.close (tie.spec stop-requires same-length returns)
+unknown-spec = tie.close (tie.spec (λ c κs. search needs) (λ c. search needs) returns)

@@ -7,9 +7,6 @@ use Rattle.whole.specs.Whole.{summed, sums-same, intact, not-intact}
 use Rattle.whole.proofs.intact.Statement.{statement}
 use Rattle.whole.proofs.intact.Tie as tie
 
-mul-rows : tie.Need-mul-rows
-mul-rows c = search needs
-
 slice-relend-prefix-syndromes : tie.Need-slice-relend-prefix-syndromes
 slice-relend-prefix-syndromes c = zeros-room (c .before .before .before .before .pre .1)
 
@@ -17,13 +14,7 @@ slice-aggregate-syndromes : tie.Need-slice-aggregate-syndromes
 slice-aggregate-syndromes c = front-long _ _ (zeros-room (c .before .before .before .before .before .pre .1))
 
 syndromes-requires : tie.Need-syndromes-requires
-syndromes-requires c κs = (c .before .before .before .before .before .pre .0 .0 .sized, c .before .before .before .before .before .pre .0 .1, zeros-part (c .before .before .before .before .before .pre .1))
-
-zero-bytes-requires : tie.Need-zero-bytes-requires
-zero-bytes-requires c κs = search needs
-
-same-length : tie.Need-same-length
-same-length c = search needs
+syndromes-requires c κs = (c .before .before .before .before .before .pre .0 .0 .good, c .before .before .before .before .before .pre .0 .1, zeros-part (c .before .before .before .before .before .pre .1))
 
 returns : tie.Need-returns
 returns c = (summed (c .before .before .before .before .syndromes .ensures) _, not-intact refl)
@@ -34,12 +25,6 @@ slice-reshare-prefix-zero-bytes c = summed (c .before .before .before .before .s
 slice-aggregate-zero-bytes : tie.Need-slice-aggregate-zero-bytes
 slice-aggregate-zero-bytes c = front-long _ _ (summed (c .before .before .before .before .before .syndromes .ensures) _ .room)
 
-zero-bytes-requires-2 : tie.Need-zero-bytes-requires-2
-zero-bytes-requires-2 c κs = search needs
-
-same-length-2 : tie.Need-same-length-2
-same-length-2 c = search needs
-
 returns-2 : tie.Need-returns-2
 returns-2 c = (summed (c .before .before .before .before .before .before .syndromes .ensures) _, intact (c .before .before .before .before .before .before .before .before .before .before .before .before .pre .0 .0) (c .before .before .before .before .before .before .before .before .before .before .before .before .pre .0 .1) (λ i. c .before .before .before .before .before .before .before .before .before .before .shared-slice-known2 .given i .fits) (sym (c .before .before .before .zero-bytes .ensures) ∙ not-false _ (c .before .before .if1 .left)) (c .before .before .before .before .before .before .syndromes .ensures) (sums-same (c .before .before .before .before .before .before .syndromes .ensures) _) (c .zero-bytes2 .ensures))
 
@@ -47,15 +32,15 @@ pub intact-spec : {M : Type 1} → statement M
 intact-spec =
     tie.close
     (tie.spec
-    mul-rows
+    (λ c. search needs)
     slice-relend-prefix-syndromes
     slice-aggregate-syndromes
     syndromes-requires
-    zero-bytes-requires
-    same-length
+    (λ c κs. search needs)
+    (λ c. search needs)
     returns
     slice-reshare-prefix-zero-bytes
     slice-aggregate-zero-bytes
-    zero-bytes-requires-2
-    same-length-2
+    (λ c κs. search needs)
+    (λ c. search needs)
     returns-2)

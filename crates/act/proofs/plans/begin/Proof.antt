@@ -19,23 +19,11 @@ slice-relend-prefix-clear-bytes c = places-fit _ (c .before .before .before .pre
 slice-aggregate-clear-bytes : tie.Need-slice-aggregate-clear-bytes
 slice-aggregate-clear-bytes c = front-long _ (c .before .before .before .before .args .block .now) (places-fit _ (c .before .before .before .before .pre .0) (c .before .before .before .before .args .block .now) (c .before .before .before .before .pre .1))
 
-clear-bytes-requires : tie.Need-clear-bytes-requires
-clear-bytes-requires c κs = search needs
-
 slice-relend-prefix-clear-bytes-2 : tie.Need-slice-relend-prefix-clear-bytes-2
 slice-relend-prefix-clear-bytes-2 c = bytes-fit _ (c .before .before .before .before .before .before .before .pre .0) (c .before .before .before .before .before .before .before .args .marks .now) (c .before .before .before .before .before .before .before .pre .2)
 
 slice-aggregate-clear-bytes-2 : tie.Need-slice-aggregate-clear-bytes-2
 slice-aggregate-clear-bytes-2 c = front-long _ (c .before .before .before .before .before .before .before .before .args .marks .now) (bytes-fit _ (c .before .before .before .before .before .before .before .before .pre .0) (c .before .before .before .before .before .before .before .before .args .marks .now) (c .before .before .before .before .before .before .before .before .pre .2))
-
-clear-bytes-requires-2 : tie.Need-clear-bytes-requires-2
-clear-bytes-requires-2 c κs = search needs
-
-same-length : tie.Need-same-length
-same-length c = search needs
-
-same-length-2 : tie.Need-same-length-2
-same-length-2 c = search needs
 
 returns : tie.Need-returns
 returns c =
@@ -50,4 +38,4 @@ returns c =
     begun _ v m _ _ (p .0) (part-long k v (x .last .0) a (x .kept .0) ∙ p .1) (part-long ((k + 7) / 8) m (y .last .0) b (y .kept .0) ∙ p .2) (cleared-front k v (x .last .0) a (x .ensures)) (cleared-front ((k + 7) / 8) m (y .last .0) b (y .ensures)) (part-rest k v (x .last .0) a (x .kept .0)) (part-rest ((k + 7) / 8) m (y .last .0) b (y .kept .0))
 
 pub begin-spec : {M : Type 1} → statement M
-begin-spec = tie.close (tie.spec mul-places add-bytes slice-relend-prefix-clear-bytes slice-aggregate-clear-bytes clear-bytes-requires slice-relend-prefix-clear-bytes-2 slice-aggregate-clear-bytes-2 clear-bytes-requires-2 same-length same-length-2 returns)
+begin-spec = tie.close (tie.spec mul-places add-bytes slice-relend-prefix-clear-bytes slice-aggregate-clear-bytes (λ c κs. search needs) slice-relend-prefix-clear-bytes-2 slice-aggregate-clear-bytes-2 (λ c κs. search needs) (λ c. search needs) (λ c. search needs) returns)

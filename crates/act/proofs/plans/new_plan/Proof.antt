@@ -5,20 +5,11 @@ use borrow.Author.Needs.{needs}
 use Rattle.act.proofs.plans.new_plan.Statement.{statement}
 use Rattle.act.proofs.plans.new_plan.Tie as tie
 
-blank-requires : tie.Need-blank-requires
-blank-requires c κs = search needs
-
 begin-requires : tie.Need-begin-requires
 begin-requires c κs = (blank-plan _ _ _ (c .before .before .before .before .before .pre .2 unheld) (c .before .before .blank .ensures), c .before .before .before .before .before .pre .0, c .before .before .before .before .before .pre .1)
-
-same-length : tie.Need-same-length
-same-length c = search needs
-
-same-length-2 : tie.Need-same-length-2
-same-length-2 c = search needs
 
 returns : tie.Need-returns
 returns c = λ h. new-acts h (c .before .before .before .before .before .before .before .blank .ensures) (c .before .before .before .before .begin .ensures)
 
 pub new-plan-spec : {M : Type 1} → statement M
-new-plan-spec = tie.close (tie.spec blank-requires begin-requires same-length same-length-2 returns)
+new-plan-spec = tie.close (tie.spec (λ c κs. search needs) begin-requires (λ c. search needs) (λ c. search needs) returns)

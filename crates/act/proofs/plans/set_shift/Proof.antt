@@ -10,9 +10,6 @@ use borrow.Author.Needs.{needs}
 use Rattle.act.proofs.plans.set_shift.Statement.{statement}
 use Rattle.act.proofs.plans.set_shift.Tie as tie
 
-with-shift-requires : tie.Need-with-shift-requires
-with-shift-requires c κs = search needs
-
 returns : tie.Need-returns
 unfolding stateOf
 returns c =
@@ -20,4 +17,4 @@ returns c =
     λ v m k. subst (λ (p : Plan). Acts (SetShift (c .before .before .args .j) (c .before .before .args .p)) (c .before .before .args .held) v m [] (holding p) v m) (sym (c .with-shift .ensures)) (shifted _ _ _ (r .0) (r .2) (c .before .before .pre .1 (r .0)) v m k)
 
 pub set-shift-spec : {M : Type 1} → statement M
-set-shift-spec = tie.close (tie.spec with-shift-requires returns)
+set-shift-spec = tie.close (tie.spec (λ c κs. search needs) returns)

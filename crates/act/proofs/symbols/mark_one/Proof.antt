@@ -12,12 +12,9 @@ set-mark-requires : tie.Need-set-mark-requires
 unfolding stateOf
 set-mark-requires c κs = let k = c .before .before .pre .1 .0 in let r = mark-inside _ _ (c .before .before .pre .1 .1) in omega (arith, r .1, places-most _ (k .good (r .0)), k .marks-long)
 
-same-length : tie.Need-same-length
-same-length c = search needs
-
 returns : tie.Need-returns
 unfolding stateOf
 returns c = λ v k. let r = mark-inside _ _ (c .before .before .before .before .before .pre .1 .1) in one-marked k (r .0) (λ i. c .before .before .before .before .slice-known .given i .fits) _ (r .1) (c .before .before .set-mark .ensures)
 
 pub mark-one-spec : {M : Type 1} → statement M
-mark-one-spec = tie.close (tie.spec set-mark-requires same-length returns)
+mark-one-spec = tie.close (tie.spec set-mark-requires (λ c. search needs) returns)

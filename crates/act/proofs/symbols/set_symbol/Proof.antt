@@ -16,15 +16,9 @@ clear-mark-requires : tie.Need-clear-mark-requires
 unfolding stateOf
 clear-mark-requires c κs = let k = c .before .before .before .before .before .before .before .pre .0 in let r = place-inside _ _ _ (c .before .before .before .before .before .before .before .pre .1) in omega (arith, r .1, places-most _ (k .good (r .0)), k .marks-long)
 
-same-length : tie.Need-same-length
-same-length c = search needs
-
-same-length-2 : tie.Need-same-length-2
-same-length-2 c = search needs
-
 returns : tie.Need-returns
 unfolding stateOf
 returns c = let r = place-inside _ _ _ (c .before .before .before .before .before .before .before .before .before .before .pre .1) in symbol-set (c .before .before .before .before .before .before .before .before .before .before .pre .0) (r .0) (λ i. c .before .before .before .before .before .before .before .before .slice-known2 .given i .fits) _ _ (r .1) (c .before .before .before .before .before .before .put .ensures) (c .before .before .clear-mark .ensures)
 
 pub set-symbol-spec : {M : Type 1} → statement M
-set-symbol-spec = tie.close (tie.spec put-requires clear-mark-requires same-length same-length-2 returns)
+set-symbol-spec = tie.close (tie.spec put-requires clear-mark-requires (λ c. search needs) (λ c. search needs) returns)

@@ -13,12 +13,6 @@ shared-slice-read-symbol-line : tie.Need-shared-slice-read-symbol-line
 unfolding stateOf
 shared-slice-read-symbol-line c = let k = c .before .before .before .before .pre .1 .1 .0 in let r = show-inside _ _ (c .before .before .before .before .pre .1 .1 .1) in omega (arith, r .1, places-most _ (k .good (r .0)), k .block-long)
 
-symbol-line-requires : tie.Need-symbol-line-requires
-symbol-line-requires c κs = search needs
-
-same-length : tie.Need-same-length
-same-length c = search needs
-
 returns : tie.Need-returns
 unfolding stateOf
 returns c =
@@ -27,4 +21,4 @@ returns c =
     (λ m k. shown k _ (r .1) (e .text-stands), wrote-front e)
 
 pub show-spec : {M : Type 1} → statement M
-show-spec = tie.close (tie.spec shared-slice-read-symbol-line symbol-line-requires same-length returns)
+show-spec = tie.close (tie.spec shared-slice-read-symbol-line (λ c κs. search needs) (λ c. search needs) returns)

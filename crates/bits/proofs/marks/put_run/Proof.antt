@@ -13,21 +13,12 @@ Inv-loop marks₀ start m bit end at₀ marks at = (start ≤ at) × (at ≤ end
 abbrev μ-loop : tie.MeasureT-loop
 μ-loop marks₀ start m bit end at₀ marks at = end - at
 
-add-end : tie.Need-add-end Inv-loop μ-loop
-add-end c = omega arith
-
 loop-holds : tie.Need-loop-holds Inv-loop μ-loop
 loop-holds c =
     let a = c .before .args in
     let e : a .start - a .start ≡ 0 = omega arith in
     let known = c .slice-known .given in
     (omega arith, omega arith, rw e (marked-none (a .marks .now) (a .start) (a .bit) (λ i. omega (arith, known i))))
-
-put-some-requires : tie.Need-put-some-requires Inv-loop μ-loop
-put-some-requires c κs = omega arith
-
-loop-less : tie.Need-loop-less Inv-loop μ-loop
-loop-less c = omega arith
 
 loop-again : tie.Need-loop-again Inv-loop μ-loop
 loop-again c =
@@ -51,10 +42,10 @@ put-run-spec =
     (tie.spec
     Inv-loop
     μ-loop
-    add-end
+    (λ c. omega arith)
     loop-holds
-    put-some-requires
-    loop-less
+    (λ c κs. omega arith)
+    (λ c. omega arith)
     loop-again
     same-length
     returns)

@@ -5,17 +5,11 @@ use lib.Pow.{shl-exact}
 use Rattle.bits.proofs.words.lane.Statement.{statement}
 use Rattle.bits.proofs.words.lane.Tie as tie
 
-shared-slice-read-result : tie.Need-shared-slice-read-result
-shared-slice-read-result c = search needs
-
 cast-result : tie.Need-cast-result
 cast-result c = omega (arith, c .shared-slice-known .given (c .before .args .i))
-
-shl-result : tie.Need-shl-result
-shl-result c = search needs
 
 returns : tie.Need-returns
 returns c = shl-exact 8 (c .before .args .k) 64 (c .shared-slice-known .given (c .before .args .i) .fits) (omega arith)
 
 pub lane-spec : {M : Type 1} → statement M
-lane-spec = tie.close (tie.spec shared-slice-read-result cast-result shl-result returns)
+lane-spec = tie.close (tie.spec (λ c. search needs) cast-result (λ c. search needs) returns)

@@ -17,18 +17,6 @@ abbrev μ-loop : tie.MeasureT-loop
 loop-holds : tie.Need-loop-holds Inv-loop μ-loop
 loop-holds c = (omega arith, omega arith, omega arith, lanes-begin (c .before .args .marks .now) (c .before .args .i))
 
-lane-requires : tie.Need-lane-requires Inv-loop μ-loop
-lane-requires c κs = search needs
-
-add-k : tie.Need-add-k Inv-loop μ-loop
-add-k c = search needs
-
-add-a : tie.Need-add-a Inv-loop μ-loop
-add-a c = search needs
-
-loop-less : tie.Need-loop-less Inv-loop μ-loop
-loop-less c = search needs
-
 loop-again : tie.Need-loop-again Inv-loop μ-loop
 loop-again c = (omega arith, omega arith, omega arith, lanes-next (c .lane .result) (c .before .before .loop .inv .0) (c .before .before .loop .inv .3) (c .before .before .loop .inv .2) (c .before .before .before .shared-slice-known .given (c .before .before .loop .a) .fits) (c .lane .ensures))
 
@@ -42,9 +30,9 @@ last-word-spec =
     Inv-loop
     μ-loop
     loop-holds
-    lane-requires
-    add-k
-    add-a
-    loop-less
+    (λ c κs. search needs)
+    (λ c. search needs)
+    (λ c. search needs)
+    (λ c. search needs)
     loop-again
     returns)

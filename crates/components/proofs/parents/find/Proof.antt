@@ -11,29 +11,14 @@ Inv-loop parent₀ r₀ up₀ parent r up = Seeks parent₀ (r₀ .0) parent (r 
 abbrev μ-loop : tie.MeasureT-loop
 μ-loop parent₀ r₀ up₀ parent r up = r .0
 
-cast-row-at : tie.Need-cast-row-at Inv-loop μ-loop
-cast-row-at c = search needs
-
-row-at-requires : tie.Need-row-at-requires Inv-loop μ-loop
-row-at-requires c κs = search needs
-
 loop-holds : tie.Need-loop-holds Inv-loop μ-loop
 loop-holds c = seeks-own (c .before .before .before .before .pre .0) (c .before .before .before .before .pre .1) (c .row-at .ensures)
-
-cast-row-at-2 : tie.Need-cast-row-at-2 Inv-loop μ-loop
-cast-row-at-2 c = search needs
 
 row-at-requires-2 : tie.Need-row-at-requires-2 Inv-loop μ-loop
 row-at-requires-2 c κs = omega (arith, c .before .before .before .before .before .loop .inv .low, c .before .before .before .before .before .loop .inv .near, c .before .before .before .before .before .loop .inv .start, c .before .before .before .before .before .loop .inv .long)
 
-cast-put-row : tie.Need-cast-put-row Inv-loop μ-loop
-cast-put-row c = search needs
-
 put-row-requires : tie.Need-put-row-requires Inv-loop μ-loop
 put-row-requires c κs = omega (arith, c .before .before .before .before .before .before .before .before .loop .inv .near, c .before .before .before .before .before .before .before .before .loop .inv .start, c .before .before .before .before .before .before .before .before .loop .inv .long)
-
-cast-row-at-3 : tie.Need-cast-row-at-3 Inv-loop μ-loop
-cast-row-at-3 c = search needs
 
 row-at-requires-3 : tie.Need-row-at-requires-3 Inv-loop μ-loop
 row-at-requires-3 c κs = omega (arith, c .before .before .before .before .before .before .before .row-at2 .ensures, c .before .before .before .before .before .before .before .before .before .before .before .before .before .loop .inv .next-low, c .before .before .before .before .before .before .before .before .before .before .before .before .before .loop .inv .low, c .before .before .before .before .before .before .before .before .before .before .before .before .before .loop .inv .near, c .before .before .before .before .before .before .before .before .before .before .before .before .before .loop .inv .start, c .before .before .before .before .before .before .before .before .before .before .before .before .before .loop .inv .long, c .before .before .before .before .put-row .kept .0)
@@ -56,14 +41,14 @@ find-spec =
     (tie.spec
     Inv-loop
     μ-loop
-    cast-row-at
-    row-at-requires
+    (λ c. search needs)
+    (λ c κs. search needs)
     loop-holds
-    cast-row-at-2
+    (λ c. search needs)
     row-at-requires-2
-    cast-put-row
+    (λ c. search needs)
     put-row-requires
-    cast-row-at-3
+    (λ c. search needs)
     row-at-requires-3
     loop-less
     loop-again

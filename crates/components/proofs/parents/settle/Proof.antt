@@ -19,9 +19,6 @@ loop-holds c = settled-none (c .before .pre)
 row-at-requires : tie.Need-row-at-requires Inv-loop μ-loop
 row-at-requires c κs = c .before .loop-test .taken
 
-cast-row-at : tie.Need-cast-row-at Inv-loop μ-loop
-cast-row-at c = search needs
-
 row-at-requires-2 : tie.Need-row-at-requires-2 Inv-loop μ-loop
 row-at-requires-2 c κs = omega (arith, c .before .before .row-at .ensures, c .before .before .before .before .before .loop .inv .same .falls (c .before .before .before .before .before .loop .r) (c .before .before .before .before .loop-test .taken), c .before .before .before .before .loop-test .taken)
 
@@ -51,7 +48,7 @@ settle-spec =
     μ-loop
     loop-holds
     row-at-requires
-    cast-row-at
+    (λ c. search needs)
     row-at-requires-2
     put-row-requires
     add-r

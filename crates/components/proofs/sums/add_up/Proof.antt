@@ -20,9 +20,6 @@ loop-holds c = (c .before .before .before .pre .0, omega arith)
 row-at-requires : tie.Need-row-at-requires Inv-loop μ-loop
 row-at-requires c κs = omega (arith, c .before .before .before .before .before .pre .1, c .loop-test .taken)
 
-cast-q : tie.Need-cast-q Inv-loop μ-loop
-cast-q c = search needs
-
 slice-read-total : tie.Need-slice-read-total Inv-loop μ-loop
 slice-read-total c = omega (arith, c .before .before .row-at .ensures, c .before .before .before .before .before .before .before .before .pre .3 (c .before .before .before .before .loop .r) (c .before .before .before .loop-test .taken), c .before .before .before .before .loop .inv .0 .long)
 
@@ -56,7 +53,7 @@ add-up-spec =
     μ-loop
     loop-holds
     row-at-requires
-    cast-q
+    (λ c. search needs)
     slice-read-total
     shared-slice-read-total
     slice-write-total

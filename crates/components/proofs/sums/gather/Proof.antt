@@ -16,17 +16,8 @@ abbrev μ-loop : tie.MeasureT-loop
 loop-holds : tie.Need-loop-holds Inv-loop μ-loop
 loop-holds c = (gathers-none _ _ _ _ (c .before .before .pre .0), omega arith)
 
-cast-t10 : tie.Need-cast-t10 Inv-loop μ-loop
-cast-t10 c = omega arith
-
 note-requires : tie.Need-note-requires Inv-loop μ-loop
 note-requires c κs = (c .before .before .loop .inv .0, c .before .before .before .before .before .pre .1, gathers-long (c .before .before .loop .inv .0) (c .before .before .loop .inv .1), c .before .before .before .before .before .pre .2, c .before .loop-test .taken)
-
-add-s : tie.Need-add-s Inv-loop μ-loop
-add-s c = omega arith
-
-loop-less : tie.Need-loop-less Inv-loop μ-loop
-loop-less c = omega arith
 
 loop-again : tie.Need-loop-again Inv-loop μ-loop
 loop-again c = (c .before .before .note .ensures, omega (arith, c .before .before .before .before .loop-test .taken))
@@ -44,10 +35,10 @@ gather-spec =
     Inv-loop
     μ-loop
     loop-holds
-    cast-t10
+    (λ c. omega arith)
     note-requires
-    add-s
-    loop-less
+    (λ c. omega arith)
+    (λ c. omega arith)
     loop-again
     same-length
     returns)

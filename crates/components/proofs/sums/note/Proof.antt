@@ -6,23 +6,8 @@ use Rattle.components.specs.Lists.{gathers-in, gathers-out}
 use Rattle.components.proofs.sums.note.Statement.{statement}
 use Rattle.components.proofs.sums.note.Tie as tie
 
-cast-row-at : tie.Need-cast-row-at
-cast-row-at c = search needs
-
-row-at-requires : tie.Need-row-at-requires
-row-at-requires c κs = search needs
-
 returns : tie.Need-returns
 returns c = gathers-out (c .before .before .before .before .before .before .before .pre .0) (λ e. c .if1 .taken (c .before .before .before .row-at .ensures ∙ e))
-
-put-row-requires : tie.Need-put-row-requires
-put-row-requires c κs = search needs
-
-add-result : tie.Need-add-result
-add-result c = search needs
-
-same-length : tie.Need-same-length
-same-length c = search needs
 
 returns-2 : tie.Need-returns-2
 returns-2 c = rw (c .before .before .put-row .ensures) (gathers-in (c .before .before .before .before .before .before .before .before .before .before .before .pre .0) (c .before .before .before .before .before .before .before .before .before .before .before .pre .4) (sym (c .before .before .before .before .before .before .before .row-at .ensures) ∙ c .before .before .before .before .if1 .left))
@@ -31,10 +16,10 @@ pub note-spec : {M : Type 1} → statement M
 note-spec =
     tie.close
     (tie.spec
-    cast-row-at
-    row-at-requires
+    (λ c. search needs)
+    (λ c κs. search needs)
     returns
-    put-row-requires
-    add-result
-    same-length
+    (λ c κs. search needs)
+    (λ c. search needs)
+    (λ c. search needs)
     returns-2)

@@ -14,23 +14,11 @@ abbrev μ-loop : tie.MeasureT-loop
 loop-holds : tie.Need-loop-holds Inv-loop μ-loop
 loop-holds c = goes-start _ (c .pre .0) (c .pre .1)
 
-add-offset : tie.Need-add-offset Inv-loop μ-loop
-add-offset c = omega arith
-
 sub-section : tie.Need-sub-section Inv-loop μ-loop
 sub-section c = goes-pos (c .before .loop .inv) (c .loop-test .taken)
 
-loop-less : tie.Need-loop-less Inv-loop μ-loop
-loop-less c = omega arith
-
 loop-again : tie.Need-loop-again Inv-loop μ-loop
 loop-again c = goes-more (c .before .loop .inv) (c .loop-test .taken)
-
-cast-t7 : tie.Need-cast-t7 Inv-loop μ-loop
-cast-t7 c = omega arith
-
-sub-t8 : tie.Need-sub-t8 Inv-loop μ-loop
-sub-t8 c = omega arith
 
 returns : tie.Need-returns Inv-loop μ-loop
 returns c = (goes-end (c .before .before .loop .inv) (c .before .loop-test .left), omega arith)
@@ -42,10 +30,10 @@ back-spec =
     Inv-loop
     μ-loop
     loop-holds
-    add-offset
+    (λ c. omega arith)
     sub-section
-    loop-less
+    (λ c. omega arith)
     loop-again
-    cast-t7
-    sub-t8
+    (λ c. omega arith)
+    (λ c. omega arith)
     returns)

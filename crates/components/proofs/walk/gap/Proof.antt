@@ -10,27 +10,6 @@ use Rattle.components.proofs.walk.gap.Tie as tie
 returns : tie.Need-returns
 returns c = gap-none _ _
 
-byte-below-requires : tie.Need-byte-below-requires
-byte-below-requires c κs = search needs
-
-cast-known : tie.Need-cast-known
-cast-known c = search needs
-
-mul-known : tie.Need-mul-known
-mul-known c = search needs
-
-sub-known : tie.Need-sub-known
-sub-known c = search needs
-
-word-from-requires : tie.Need-word-from-requires
-word-from-requires c κs = search needs
-
-sub-word : tie.Need-sub-word
-sub-word c = search needs
-
-shl-word : tie.Need-shl-word
-shl-word c = search needs
-
 cast-zeros : tie.Need-cast-zeros
 cast-zeros c = omega (arith, leading-le 64 (c .word-from .result * 2 ^ (64 - (c .before .before .before .before .before .before .args .c .0 - 8 * c .before .before .byte-below .result)) % 2 ^ 64))
 
@@ -45,13 +24,13 @@ gap-spec =
     tie.close
     (tie.spec
     returns
-    byte-below-requires
-    cast-known
-    mul-known
-    sub-known
-    word-from-requires
-    sub-word
-    shl-word
+    (λ c κs. search needs)
+    (λ c. search needs)
+    (λ c. search needs)
+    (λ c. search needs)
+    (λ c κs. search needs)
+    (λ c. search needs)
+    (λ c. search needs)
     cast-zeros
     returns-2
     returns-3)

@@ -4,20 +4,11 @@ use borrow.Author.Needs.{needs}
 use Rattle.components.proofs.walk.labels.Statement.{statement}
 use Rattle.components.proofs.walk.labels.Tie as tie
 
-own-requires : tie.Need-own-requires
-own-requires c κs = search needs
-
 pass-requires : tie.Need-pass-requires
 pass-requires c κs = walking-start (c .before .before .before .before .before .before .before .before .pre .0) _ (c .before .before .before .before .before .before .before .before .pre .1) (c .before .before .before .before .before .before .before .before .pre .2) (c .before .before .before .own .ensures)
-
-settle-requires : tie.Need-settle-requires
-settle-requires c κs = search needs
-
-same-length : tie.Need-same-length
-same-length c = search needs
 
 returns : tie.Need-returns
 returns c = passed-labelled (c .before .before .before .before .before .before .pass .ensures) (c .before .before .settle .ensures)
 
 pub labels-spec : {M : Type 1} → statement M
-labels-spec = tie.close (tie.spec own-requires pass-requires settle-requires same-length returns)
+labels-spec = tie.close (tie.spec (λ c κs. search needs) pass-requires (λ c κs. search needs) (λ c. search needs) returns)

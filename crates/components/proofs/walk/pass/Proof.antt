@@ -15,25 +15,22 @@ abbrev μ-loop : tie.MeasureT-loop
 μ-loop n t shifts marks parent₀ low left₀ walk₀ parent left walk = left
 
 pass-zeros-requires : tie.Need-pass-zeros-requires Inv-loop μ-loop
-pass-zeros-requires c κs = omega (arith, c .before .before .before .pre .sized, c .before .before .before .pre .bytes)
+pass-zeros-requires c κs = omega (arith, c .before .before .before .pre .good, c .before .before .before .pre .bytes)
 
 mul-low : tie.Need-mul-low Inv-loop μ-loop
 mul-low c = omega (arith, c .pass-zeros .ensures .1)
 
 mul-left : tie.Need-mul-left Inv-loop μ-loop
-mul-left c = omega (arith, c .before .before .before .before .pre .sized)
+mul-left c = omega (arith, c .before .before .before .before .pre .good)
 
 cast-t10 : tie.Need-cast-t10 Inv-loop μ-loop
-cast-t10 c = omega (arith, c .before .before .before .before .pre .sized)
+cast-t10 c = omega (arith, c .before .before .before .before .pre .good)
 
 loop-holds : tie.Need-loop-holds Inv-loop μ-loop
 loop-holds c = (c .before .before .before .before .pre, refl, refl)
 
 step-requires : tie.Need-step-requires Inv-loop μ-loop
 step-requires c κs = (c .before .before .loop .inv .0, omega (arith, c .before .before .loop .inv .1, c .before .loop-test .taken))
-
-cast-left : tie.Need-cast-left Inv-loop μ-loop
-cast-left c = search needs
 
 loop-less : tie.Need-loop-less Inv-loop μ-loop
 loop-less c = omega (arith, c .before .before .before .step .ensures .1, c .before .before .before .before .before .before .loop .inv .1)
@@ -59,7 +56,7 @@ pass-spec =
     cast-t10
     loop-holds
     step-requires
-    cast-left
+    (λ c. search needs)
     loop-less
     loop-again
     same-length

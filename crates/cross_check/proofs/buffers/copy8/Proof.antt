@@ -10,37 +10,16 @@ Inv-loop k from to₀ i₀ to i = Unit {0}
 abbrev μ-loop : tie.MeasureT-loop
 μ-loop k from to₀ i₀ to i = k - i
 
-loop-holds : tie.Need-loop-holds Inv-loop μ-loop
-loop-holds c = tt
-
-get8-requires : tie.Need-get8-requires Inv-loop μ-loop
-get8-requires c κs = tt
-
-put8-requires : tie.Need-put8-requires Inv-loop μ-loop
-put8-requires c κs = tt
-
-add-i : tie.Need-add-i Inv-loop μ-loop
-add-i c = omega arith
-
-loop-less : tie.Need-loop-less Inv-loop μ-loop
-loop-less c = omega arith
-
-loop-again : tie.Need-loop-again Inv-loop μ-loop
-loop-again c = tt
-
-returns : tie.Need-returns Inv-loop μ-loop
-returns c = tt
-
 pub copy8-spec : {M : Type 1} → statement M
 copy8-spec =
     tie.close
     (tie.spec
     Inv-loop
     μ-loop
-    loop-holds
-    get8-requires
-    put8-requires
-    add-i
-    loop-less
-    loop-again
-    returns)
+    (λ c. tt)
+    (λ c κs. tt)
+    (λ c κs. tt)
+    (λ c. omega arith)
+    (λ c. omega arith)
+    (λ c. tt)
+    (λ c. tt))

@@ -10,37 +10,16 @@ Inv-loop k a b all₀ i₀ all i = Unit {0}
 abbrev μ-loop : tie.MeasureT-loop
 μ-loop k a b all₀ i₀ all i = k - i
 
-loop-holds : tie.Need-loop-holds Inv-loop μ-loop
-loop-holds c = tt
-
-get16-requires : tie.Need-get16-requires Inv-loop μ-loop
-get16-requires c κs = tt
-
-get16-requires-2 : tie.Need-get16-requires-2 Inv-loop μ-loop
-get16-requires-2 c κs = tt
-
-add-i : tie.Need-add-i Inv-loop μ-loop
-add-i c = omega arith
-
-loop-less : tie.Need-loop-less Inv-loop μ-loop
-loop-less c = omega arith
-
-loop-again : tie.Need-loop-again Inv-loop μ-loop
-loop-again c = tt
-
-returns : tie.Need-returns Inv-loop μ-loop
-returns c = tt
-
 pub same16-spec : {M : Type 1} → statement M
 same16-spec =
     tie.close
     (tie.spec
     Inv-loop
     μ-loop
-    loop-holds
-    get16-requires
-    get16-requires-2
-    add-i
-    loop-less
-    loop-again
-    returns)
+    (λ c. tt)
+    (λ c κs. tt)
+    (λ c κs. tt)
+    (λ c. omega arith)
+    (λ c. omega arith)
+    (λ c. tt)
+    (λ c. tt))

@@ -10,41 +10,17 @@ Inv-loop s₀ k seed x₀ i₀ s x i = Unit {0}
 abbrev μ-loop : tie.MeasureT-loop
 μ-loop s₀ k seed x₀ i₀ s x i = k - i
 
-loop-holds : tie.Need-loop-holds Inv-loop μ-loop
-loop-holds c = tt
-
-next-requires : tie.Need-next-requires Inv-loop μ-loop
-next-requires c κs = tt
-
-low8-requires : tie.Need-low8-requires Inv-loop μ-loop
-low8-requires c κs = tt
-
-put8-requires : tie.Need-put8-requires Inv-loop μ-loop
-put8-requires c κs = tt
-
-add-i : tie.Need-add-i Inv-loop μ-loop
-add-i c = omega arith
-
-loop-less : tie.Need-loop-less Inv-loop μ-loop
-loop-less c = omega arith
-
-loop-again : tie.Need-loop-again Inv-loop μ-loop
-loop-again c = tt
-
-returns : tie.Need-returns Inv-loop μ-loop
-returns c = tt
-
 pub fill8-spec : {M : Type 1} → statement M
 fill8-spec =
     tie.close
     (tie.spec
     Inv-loop
     μ-loop
-    loop-holds
-    next-requires
-    low8-requires
-    put8-requires
-    add-i
-    loop-less
-    loop-again
-    returns)
+    (λ c. tt)
+    (λ c κs. tt)
+    (λ c κs. tt)
+    (λ c κs. tt)
+    (λ c. omega arith)
+    (λ c. omega arith)
+    (λ c. tt)
+    (λ c. tt))

@@ -6,23 +6,11 @@ use Rattle.cycle.specs.Walks.{mate-row, mate-room, mate-few, mate-shift,
 use Rattle.cycle.proofs.walk.mate.Statement.{statement}
 use Rattle.cycle.proofs.walk.mate.Tie as tie
 
-cast-r : tie.Need-cast-r
-cast-r c = search needs
-
-mul-section : tie.Need-mul-section
-mul-section c = search needs
-
 shared-slice-read-section : tie.Need-shared-slice-read-section
 shared-slice-read-section c = omega (arith, mate-row (c .before .before .before .before .pre), c .before .before .before .before .pre .long)
 
 cast-section : tie.Need-cast-section
 cast-section c = omega (arith, mate-few (c .before .before .before .before .pre))
-
-cast-section-2 : tie.Need-cast-section-2
-cast-section-2 c = search needs
-
-mul-section-2 : tie.Need-mul-section-2
-mul-section-2 c = search needs
 
 sub-section : tie.Need-sub-section
 sub-section c = omega (arith, mate-room (c .before .before .before .before .pre))
@@ -37,10 +25,10 @@ shared-slice-read-p : tie.Need-shared-slice-read-p
 shared-slice-read-p c = mate-shift (c .before .before .before .before .before .before .pre) refl .0
 
 cast-p : tie.Need-cast-p
-cast-p c = omega (arith, mate-shift (c .before .before .before .before .before .before .pre) refl .1, c .before .before .before .before .before .before .pre .sized .t-max)
+cast-p c = omega (arith, mate-shift (c .before .before .before .before .before .before .pre) refl .1, c .before .before .before .before .before .before .pre .good .t-max)
 
 beside-requires : tie.Need-beside-requires
-beside-requires c κs = (mate-shift (c .before .before .before .before .before .before .pre) refl .1, mate-row (c .before .before .before .before .before .before .pre), c .before .before .before .before .before .before .pre .sized .t-max)
+beside-requires c κs = (mate-shift (c .before .before .before .before .before .before .pre) refl .1, mate-row (c .before .before .before .before .before .before .pre), c .before .before .before .before .before .before .pre .good .t-max)
 
 mul-t17 : tie.Need-mul-t17
 mul-t17 c = omega (arith, mate-place (c .before .before .before .before .before .before .before .pre) refl (c .beside .ensures))
@@ -58,12 +46,12 @@ pub mate-spec : {M : Type 1} → statement M
 mate-spec =
     tie.close
     (tie.spec
-    cast-r
-    mul-section
+    (λ c. search needs)
+    (λ c. search needs)
     shared-slice-read-section
     cast-section
-    cast-section-2
-    mul-section-2
+    (λ c. search needs)
+    (λ c. search needs)
     sub-section
     sub-section-2
     mul-p

@@ -5,9 +5,6 @@ use Rattle.cycle.specs.Walks.{couple-top, couple-bottom, second-shift, p
 use Rattle.cycle.proofs.walk.pair.Statement.{statement}
 use Rattle.cycle.proofs.walk.pair.Tie as tie
 
-top-requires : tie.Need-top-requires
-top-requires c κs = search needs
-
 mate-requires : tie.Need-mate-requires
 mate-requires c κs = couple-top (c .before .before .before .before .pre .0) (c .top .ensures)
 
@@ -18,25 +15,16 @@ shared-slice-read-p : tie.Need-shared-slice-read-p
 shared-slice-read-p c = second-shift (c .before .before .before .before .before .before .pre .0) (c .before .before .top .ensures) (c .before .mate .ensures) .0
 
 cast-p : tie.Need-cast-p
-cast-p c = omega (arith, second-shift (c .before .before .before .before .before .before .pre .0) (c .before .before .top .ensures) (c .before .mate .ensures) .2, c .before .before .before .before .before .before .pre .0 .sized .t-max)
-
-put-place-requires : tie.Need-put-place-requires
-put-place-requires c κs = search needs
-
-add-put-place : tie.Need-add-put-place
-add-put-place c = search needs
+cast-p c = omega (arith, second-shift (c .before .before .before .before .before .before .pre .0) (c .before .before .top .ensures) (c .before .mate .ensures) .2, c .before .before .before .before .before .before .pre .0 .good .t-max)
 
 put-place-requires-2 : tie.Need-put-place-requires-2
 put-place-requires-2 c κs = omega (arith, c .before .before .before .before .before .before .before .before .before .before .before .before .before .pre .1, c .before .before .before .put-place .kept .0)
 
 bottom-requires : tie.Need-bottom-requires
-bottom-requires c κs = let s = second-shift (c .before .before .before .before .before .before .before .before .before .before .before .before .before .before .before .before .pre .0) (c .before .before .before .before .before .before .before .before .before .before .before .before .top .ensures) (c .before .before .before .before .before .before .before .before .before .before .before .mate .ensures) in (s .1, s .2, c .before .before .before .before .before .before .before .before .before .before .before .before .before .before .before .before .pre .0 .sized .t-max)
+bottom-requires c κs = let s = second-shift (c .before .before .before .before .before .before .before .before .before .before .before .before .before .before .before .before .pre .0) (c .before .before .before .before .before .before .before .before .before .before .before .before .top .ensures) (c .before .before .before .before .before .before .before .before .before .before .before .mate .ensures) in (s .1, s .2, c .before .before .before .before .before .before .before .before .before .before .before .before .before .before .before .before .pre .0 .good .t-max)
 
 mate-requires-2 : tie.Need-mate-requires-2
 mate-requires-2 c κs = couple-bottom (c .before .before .before .before .before .before .before .before .before .before .before .before .before .before .before .before .before .pre .0) (c .before .before .before .before .before .before .before .before .before .before .before .before .before .top .ensures) (c .before .before .before .before .before .before .before .before .before .before .before .before .mate .ensures) (c .bottom .ensures)
-
-same-length : tie.Need-same-length
-same-length c = search needs
 
 returns : tie.Need-returns
 returns c = paired (c .before .before .before .before .before .before .before .before .before .before .before .before .before .before .before .before .before .before .pre .0) (c .before .before .before .before .before .before .before .before .before .before .before .before .before .before .top .ensures) (c .before .before .before .before .before .before .before .before .before .before .before .before .before .mate .ensures) (c .before .bottom .ensures) (c .before .before .before .before .before .before .before .before .before .before .before .before .before .before .before .before .before .before .args .witness .now) _ _ (c .before .before .before .before .before .before .before .before .before .before .before .before .before .before .before .before .before .before .args .z) (c .mate2 .ensures) (c .before .before .before .before .before .before .before .before .put-place .ensures) (c .before .before .before .before .put-place2 .ensures)
@@ -45,15 +33,15 @@ pub pair-spec : {M : Type 1} → statement M
 pair-spec =
     tie.close
     (tie.spec
-    top-requires
+    (λ c κs. search needs)
     mate-requires
     mul-p
     shared-slice-read-p
     cast-p
-    put-place-requires
-    add-put-place
+    (λ c κs. search needs)
+    (λ c. search needs)
     put-place-requires-2
     bottom-requires
     mate-requires-2
-    same-length
+    (λ c. search needs)
     returns)

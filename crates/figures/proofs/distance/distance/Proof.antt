@@ -14,9 +14,6 @@ returns c = distance-two (c .before .before .pre .0) (c .before .before .pre .1)
 returns-2 : tie.Need-returns-2
 returns-2 c = distance-same (c .before .before .before .pre .0) (c .before .before .before .pre .1) (c .if2 .taken)
 
-all-distinct-requires : tie.Need-all-distinct-requires
-all-distinct-requires c κs = search needs
-
 returns-3 : tie.Need-returns-3
 returns-3 c = distance-rule (c .before .before .before .before .before .pre .0) (c .before .before .before .if1 .left) (c .before .all-distinct .ensures .keeps (c .if3 .taken))
 
@@ -27,4 +24,4 @@ returns-4 c =
 
 pub distance-spec : {M : Type 1} → statement M
 distance-spec =
-    tie.close (tie.spec add-result returns returns-2 all-distinct-requires returns-3 returns-4)
+    tie.close (tie.spec add-result returns returns-2 (λ c κs. search needs) returns-3 returns-4)

@@ -11,12 +11,6 @@ use Rattle.figures.proofs.parity.count.Tie as tie
 slice-aggregate-divisor : tie.Need-slice-aggregate-divisor
 slice-aggregate-divisor c = sym (length-take-le _ _ (c .before .before .pre .long))
 
-divisor-requires : tie.Need-divisor-requires
-divisor-requires c κs = search needs
-
-mul-result : tie.Need-mul-result
-mul-result c = search needs
-
 sub-result : tie.Need-sub-result
 sub-result c = omega (arith, divisor-most _ (c .before .before .before .pre .t-min) (c .divisor .ensures))
 
@@ -25,4 +19,4 @@ returns c = parity-is _ _ _ (c .before .before .before .pre) (c .divisor .ensure
 
 pub count-spec : {M : Type 1} → statement M
 count-spec =
-    tie.close (tie.spec slice-aggregate-divisor divisor-requires mul-result sub-result returns)
+    tie.close (tie.spec slice-aggregate-divisor (λ c κs. search needs) (λ c. search needs) sub-result returns)

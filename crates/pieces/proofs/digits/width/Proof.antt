@@ -21,12 +21,6 @@ returns c = let l = c .before .before .loop in (widening-found (l .inv) (c .if1 
 mul-power : tie.Need-mul-power Inv-loop μ-loop
 mul-power c = record { fits = widening-fits (c .before .before .loop .inv) (c .before .loop-test .taken) }
 
-add-k : tie.Need-add-k Inv-loop μ-loop
-add-k c = omega arith
-
-loop-less : tie.Need-loop-less Inv-loop μ-loop
-loop-less c = omega arith
-
 loop-again : tie.Need-loop-again Inv-loop μ-loop
 loop-again c = widening-step (c .before .before .loop .inv) (c .before .loop-test .taken) (c .if1 .left)
 
@@ -50,8 +44,8 @@ width-spec =
     loop-holds
     returns
     mul-power
-    add-k
-    loop-less
+    (λ c. omega arith)
+    (λ c. omega arith)
     loop-again
     returns-2
     returns-3)

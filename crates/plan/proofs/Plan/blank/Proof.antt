@@ -8,17 +8,8 @@ use borrow.Author.Needs.{needs}
 use Rattle.plan.proofs.Plan.blank.Statement.{statement}
 use Rattle.plan.proofs.Plan.blank.Tie as tie
 
-size-fits-requires : tie.Need-size-fits-requires
-size-fits-requires c κs = search needs
-
-refused-requires : tie.Need-refused-requires
-refused-requires c κs = search needs
-
 returns : tie.Need-returns
 returns c = c .refused .ensures ∙ blank-size _ _ (failed _ (c .before .before .size-fits .ensures) (c .before .if1 .taken))
-
-good-requires : tie.Need-good-requires
-good-requires c κs = search needs
 
 returns-2 : tie.Need-returns-2
 returns-2 c =
@@ -27,4 +18,4 @@ returns-2 c =
 
 pub blank-spec : {M : Type 1} → statement M
 blank-spec =
-    tie.close (tie.spec size-fits-requires refused-requires returns good-requires returns-2)
+    tie.close (tie.spec (λ c κs. search needs) (λ c κs. search needs) returns (λ c κs. search needs) returns-2)

@@ -9,9 +9,6 @@ use borrow.Author.Needs.{needs}
 use Rattle.plan.proofs.Plan.check.Statement.{statement}
 use Rattle.plan.proofs.Plan.check.Tie as tie
 
-size-fits-requires : tie.Need-size-fits-requires
-size-fits-requires c κs = search needs
-
 returns : tie.Need-returns
 returns c = check-size _ (failed _ (c .before .size-fits .ensures) (c .if1 .taken))
 
@@ -27,9 +24,6 @@ slice-aggregate-check-shifts c =
     let l : length (c .before .before .before .before .args .self .shifts) ≡ 32 = search needs in
     sym (length-take-le _ _ (omega arith))
 
-check-shifts-requires : tie.Need-check-shifts-requires
-check-shifts-requires c κs = search needs
-
 returns-2 : tie.Need-returns-2
 returns-2 c = check-shifts _ (passed _ (c .before .before .before .size-fits .ensures) (c .before .before .if1 .left)) (c .check-shifts .ensures)
 
@@ -37,9 +31,9 @@ pub check-spec : {M : Type 1} → statement M
 check-spec =
     tie.close
     (tie.spec
-    size-fits-requires
+    (λ c κs. search needs)
     returns
     array-share-prefix-s
     slice-aggregate-check-shifts
-    check-shifts-requires
+    (λ c κs. search needs)
     returns-2)

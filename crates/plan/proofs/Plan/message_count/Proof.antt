@@ -7,20 +7,8 @@ use borrow.Author.Needs.{needs}
 use Rattle.plan.proofs.Plan.message_count.Statement.{statement}
 use Rattle.plan.proofs.Plan.message_count.Tie as tie
 
-check-requires : tie.Need-check-requires
-check-requires c κs = search needs
-
-enum-told : tie.Need-enum-told
-enum-told c = search needs
-
-slice-aggregate-message-places : tie.Need-slice-aggregate-message-places
-slice-aggregate-message-places c = search needs
-
 message-places-requires : tie.Need-message-places-requires
 message-places-requires c κs = good-bounds _ (sym (c .before .before .before .check .ensures) ∙ c .before .enum-told .given .1)
-
-enum-known-x : tie.Need-enum-known-x
-enum-known-x c = search needs
 
 returns : tie.Need-returns
 unfolding layoutOf
@@ -37,10 +25,10 @@ pub message-count-spec : {M : Type 1} → statement M
 message-count-spec =
     tie.close
     (tie.spec
-    check-requires
-    enum-told
-    slice-aggregate-message-places
+    (λ c κs. search needs)
+    (λ c. search needs)
+    (λ c. search needs)
     message-places-requires
-    enum-known-x
+    (λ c. search needs)
     returns
     returns-2)

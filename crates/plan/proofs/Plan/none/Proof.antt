@@ -4,12 +4,9 @@ use borrow.Author.Needs.{needs}
 use Rattle.plan.proofs.Plan.none.Statement.{statement}
 use Rattle.plan.proofs.Plan.none.Tie as tie
 
-raw-requires : tie.Need-raw-requires
-raw-requires c κs = search needs
-
 returns : tie.Need-returns
 unfolding noPlan
 returns c = search needs
 
 pub none-spec : {M : Type 1} → statement M
-none-spec = tie.close (tie.spec raw-requires returns)
+none-spec = tie.close (tie.spec (λ c κs. search needs) returns)

@@ -7,35 +7,14 @@ use borrow.Author.Needs.{needs}
 use Rattle.plan.proofs.Plan.of.Statement.{statement}
 use Rattle.plan.proofs.Plan.of.Tie as tie
 
-size-fits-requires : tie.Need-size-fits-requires
-size-fits-requires c κs = search needs
-
-refused-requires : tie.Need-refused-requires
-refused-requires c κs = search needs
-
 returns : tie.Need-returns
 returns c = c .refused .ensures ∙ of-size _ _ _ (failed _ (c .before .before .size-fits .ensures) (c .before .if1 .taken))
-
-check-shifts-requires : tie.Need-check-shifts-requires
-check-shifts-requires c κs = search needs
-
-enum-told : tie.Need-enum-told
-enum-told c = search needs
 
 copied-requires : tie.Need-copied-requires
 copied-requires c κs =
     let f = size-fitting _ _ (passed _ (c .before .before .before .before .size-fits .ensures) (c .before .before .before .if1 .left)) in
     let l = shifts-long _ _ _ (sym (c .before .before .check-shifts .ensures) ∙ c .enum-told .given .1) in
     omega arith
-
-good-requires : tie.Need-good-requires
-good-requires c κs = search needs
-
-enum-known-x : tie.Need-enum-known-x
-enum-known-x c = search needs
-
-refused-requires-2 : tie.Need-refused-requires-2
-refused-requires-2 c κs = search needs
 
 returns-2 : tie.Need-returns-2
 returns-2 c =
@@ -51,14 +30,14 @@ pub of-spec : {M : Type 1} → statement M
 of-spec =
     tie.close
     (tie.spec
-    size-fits-requires
-    refused-requires
+    (λ c κs. search needs)
+    (λ c κs. search needs)
     returns
-    check-shifts-requires
-    enum-told
+    (λ c κs. search needs)
+    (λ c. search needs)
     copied-requires
-    good-requires
-    enum-known-x
-    refused-requires-2
+    (λ c κs. search needs)
+    (λ c. search needs)
+    (λ c κs. search needs)
     returns-2
     returns-3)

@@ -6,22 +6,10 @@ use mathlib.Core.Path.{_∙_}
 use Rattle.plan.proofs.Plan.powers.Statement.{statement}
 use Rattle.plan.proofs.Plan.powers.Tie as tie
 
-size-fits-requires : tie.Need-size-fits-requires
-size-fits-requires c κs = search needs
-
-refused-requires : tie.Need-refused-requires
-refused-requires c κs = search needs
-
 returns : tie.Need-returns
 returns c =
     c .refused .ensures
     ∙ powers-size _ _ _ (failed _ (c .before .before .size-fits .ensures) (c .before .if1 .taken))
-
-powers-need-requires : tie.Need-powers-need-requires
-powers-need-requires c κs = search needs
-
-refused-requires-2 : tie.Need-refused-requires-2
-refused-requires-2 c κs = search needs
 
 returns-2 : tie.Need-returns-2
 returns-2 c =
@@ -33,9 +21,6 @@ powers-requires c κs =
     let f = size-fitting _ _ (passed _ (c .before .before .before .size-fits .ensures) (c .before .before .if1 .left)) in
     (f .n-max, f .t-min, f .t-max)
 
-good-requires : tie.Need-good-requires
-good-requires c κs = search needs
-
 returns-3 : tie.Need-returns-3
 returns-3 c =
     c .good2 .ensures _ (c .before .powers .ensures)
@@ -45,12 +30,12 @@ pub powers-spec : {M : Type 1} → statement M
 powers-spec =
     tie.close
     (tie.spec
-    size-fits-requires
-    refused-requires
+    (λ c κs. search needs)
+    (λ c κs. search needs)
     returns
-    powers-need-requires
-    refused-requires-2
+    (λ c κs. search needs)
+    (λ c κs. search needs)
     returns-2
     powers-requires
-    good-requires
+    (λ c κs. search needs)
     returns-3)

@@ -6,46 +6,25 @@ use native.Mathlib.Omega.{arith}
 use Rattle.plan.proofs.Plan.ruler.Statement.{statement}
 use Rattle.plan.proofs.Plan.ruler.Tie as tie
 
-refused-requires : tie.Need-refused-requires
-refused-requires c κs = search needs
-
 returns : tie.Need-returns
 returns c =
     c .refused .ensures
     ∙ ruler-few _ (omega arith)
-
-refused-requires-2 : tie.Need-refused-requires-2
-refused-requires-2 c κs = search needs
 
 returns-2 : tie.Need-returns-2
 returns-2 c =
     c .refused2 .ensures
     ∙ ruler-many _ (omega arith)
 
-refused-requires-3 : tie.Need-refused-requires-3
-refused-requires-3 c κs = search needs
-
 returns-3 : tie.Need-returns-3
 returns-3 c =
     c .refused3 .ensures
     ∙ ruler-below _ (omega arith) (omega arith)
 
-refused-requires-4 : tie.Need-refused-requires-4
-refused-requires-4 c κs = search needs
-
 returns-4 : tie.Need-returns-4
 returns-4 c =
     c .refused4 .ensures
     ∙ ruler-above _ (omega arith) (omega arith)
-
-t-of-requires : tie.Need-t-of-requires
-t-of-requires c κs = search needs
-
-shifts-of-requires : tie.Need-shifts-of-requires
-shifts-of-requires c κs = search needs
-
-good-requires : tie.Need-good-requires
-good-requires c κs = search needs
 
 returns-5 : tie.Need-returns-5
 returns-5 c =
@@ -56,15 +35,15 @@ pub ruler-spec : {M : Type 1} → statement M
 ruler-spec =
     tie.close
     (tie.spec
-    refused-requires
+    (λ c κs. search needs)
     returns
-    refused-requires-2
+    (λ c κs. search needs)
     returns-2
-    refused-requires-3
+    (λ c κs. search needs)
     returns-3
-    refused-requires-4
+    (λ c κs. search needs)
     returns-4
-    t-of-requires
-    shifts-of-requires
-    good-requires
+    (λ c κs. search needs)
+    (λ c κs. search needs)
+    (λ c κs. search needs)
     returns-5)

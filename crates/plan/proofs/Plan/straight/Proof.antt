@@ -7,19 +7,10 @@ use native.Mathlib.Omega.{arith}
 use Rattle.plan.proofs.Plan.straight.Statement.{statement}
 use Rattle.plan.proofs.Plan.straight.Tie as tie
 
-size-fits-requires : tie.Need-size-fits-requires
-size-fits-requires c κs = search needs
-
-refused-requires : tie.Need-refused-requires
-refused-requires c κs = search needs
-
 returns : tie.Need-returns
 returns c =
     c .refused .ensures
     ∙ straight-size _ _ (failed _ (c .before .before .size-fits .ensures) (c .before .if1 .taken))
-
-refused-requires-2 : tie.Need-refused-requires-2
-refused-requires-2 c κs = search needs
 
 returns-2 : tie.Need-returns-2
 returns-2 c =
@@ -28,9 +19,6 @@ returns-2 c =
 
 counting-requires : tie.Need-counting-requires
 counting-requires c κs = size-fitting _ _ (passed _ (c .before .before .size-fits .ensures) (c .before .if1 .left)) .n-max
-
-good-requires : tie.Need-good-requires
-good-requires c κs = search needs
 
 returns-3 : tie.Need-returns-3
 returns-3 c =
@@ -41,11 +29,11 @@ pub straight-spec : {M : Type 1} → statement M
 straight-spec =
     tie.close
     (tie.spec
-    size-fits-requires
-    refused-requires
+    (λ c κs. search needs)
+    (λ c κs. search needs)
     returns
-    refused-requires-2
+    (λ c κs. search needs)
     returns-2
     counting-requires
-    good-requires
+    (λ c κs. search needs)
     returns-3)

@@ -14,18 +14,9 @@ returns c =
     let l : length (c .before .args .self .shifts) ≡ 32 = search needs in
     ap (rawPlan _ _) (sym (set-out _ _ _ (omega arith)))
 
-mul-s : tie.Need-mul-s
-mul-s c = search needs
-
-array-write-s : tie.Need-array-write-s
-array-write-s c = search needs
-
-raw-requires : tie.Need-raw-requires
-raw-requires c κs = search needs
-
 returns-2 : tie.Need-returns-2
 unfolding withShift
 returns-2 c = search needs
 
 pub with-shift-spec : {M : Type 1} → statement M
-with-shift-spec = tie.close (tie.spec returns mul-s array-write-s raw-requires returns-2)
+with-shift-spec = tie.close (tie.spec returns (λ c. search needs) (λ c. search needs) (λ c κs. search needs) returns-2)

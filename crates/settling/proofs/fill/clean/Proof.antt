@@ -6,14 +6,8 @@ use Rattle.settling.specs.Fill.{not-clean, clean-rest}
 use Rattle.settling.proofs.fill.clean.Statement.{statement}
 use Rattle.settling.proofs.fill.clean.Tie as tie
 
-zero-bytes-requires : tie.Need-zero-bytes-requires
-zero-bytes-requires c κs = search needs
-
 returns : tie.Need-returns
 returns c = sym (not-clean _ _ (sym (c .before .zero-bytes .ensures) ∙ not-true _ (c .if1 .taken)))
-
-zero-words-requires : tie.Need-zero-words-requires
-zero-words-requires c κs = search needs
 
 returns-2 : tie.Need-returns-2
 returns-2 c = c .zero-words .ensures ∙ sym (clean-rest _ _ (sym (c .before .before .zero-bytes .ensures) ∙ not-false _ (c .before .if1 .left)))
@@ -21,4 +15,4 @@ returns-2 c = c .zero-words .ensures ∙ sym (clean-rest _ _ (sym (c .before .be
 pub clean-spec : {M : Type 1} → statement M
 clean-spec =
     tie.close
-    (tie.spec zero-bytes-requires returns zero-words-requires returns-2)
+    (tie.spec (λ c κs. search needs) returns (λ c κs. search needs) returns-2)

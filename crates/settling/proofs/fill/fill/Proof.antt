@@ -19,12 +19,6 @@ abbrev μ-loop : tie.MeasureT-loop
 loop-holds : tie.Need-loop-holds Inv-loop μ-loop
 loop-holds c = (search needs, sym (filled-none _ _ _))
 
-place-at-requires : tie.Need-place-at-requires Inv-loop μ-loop
-place-at-requires c κs = omega arith
-
-cast-c : tie.Need-cast-c Inv-loop μ-loop
-cast-c c = search needs
-
 slice-read-block : tie.Need-slice-read-block Inv-loop μ-loop
 slice-read-block c = filled-inside _ _ _ _ (c .before .before .before .before .loop .inv .1) (c .before .before .place-at .ensures) (c .before .before .before .before .before .before .before .before .pre) (c .before .before .before .loop-test .taken)
 
@@ -33,12 +27,6 @@ shared-slice-read-block c = omega (arith, c .before .before .before .before .bef
 
 slice-write-block : tie.Need-slice-write-block Inv-loop μ-loop
 slice-write-block c = filled-inside _ _ _ _ (c .before .before .before .before .before .loop .inv .1) (c .before .before .before .place-at .ensures) (c .before .before .before .before .before .before .before .before .before .pre) (c .before .before .before .before .loop-test .taken)
-
-add-i : tie.Need-add-i Inv-loop μ-loop
-add-i c = omega arith
-
-loop-less : tie.Need-loop-less Inv-loop μ-loop
-loop-less c = omega arith
 
 loop-again : tie.Need-loop-again Inv-loop μ-loop
 unfolding _⊕_
@@ -57,13 +45,13 @@ fill-spec =
     Inv-loop
     μ-loop
     loop-holds
-    place-at-requires
-    cast-c
+    (λ c κs. omega arith)
+    (λ c. search needs)
     slice-read-block
     shared-slice-read-block
     slice-write-block
-    add-i
-    loop-less
+    (λ c. omega arith)
+    (λ c. omega arith)
     loop-again
     same-length
     returns)

@@ -14,11 +14,5 @@ put-row-requires c κs = c .before .before .before .pre (c .before .if1 .left)
 add-result : tie.Need-add-result
 add-result c = omega (arith, c .before .before .before .before .before .before .pre (c .before .before .before .before .if1 .left))
 
-same-length : tie.Need-same-length
-same-length c = search needs
-
-returns-2 : tie.Need-returns-2
-returns-2 c = search needs
-
 pub enter-spec : {M : Type 1} → statement M
-enter-spec = tie.close (tie.spec returns put-row-requires add-result same-length returns-2)
+enter-spec = tie.close (tie.spec returns put-row-requires add-result (λ c. search needs) (λ c. search needs))

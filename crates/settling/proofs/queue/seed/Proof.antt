@@ -13,26 +13,14 @@ Inv-loop t tally queue₀ rows tail₀ r₀ queue tail r = Sweepable tally queue
 abbrev μ-loop : tie.MeasureT-loop
 μ-loop t tally queue₀ rows tail₀ r₀ queue tail r = rows - r
 
-mul-rows : tie.Need-mul-rows Inv-loop μ-loop
-mul-rows c = omega arith
-
 loop-holds : tie.Need-loop-holds Inv-loop μ-loop
 loop-holds c = (
   record { queued = queued-none _ _; order = omega arith; tally-long = omega arith; queue-long = omega arith; few = omega arith },
   refl,
 )
 
-add-loop : tie.Need-add-loop Inv-loop μ-loop
-add-loop c = omega arith
-
 sweep-group-requires : tie.Need-sweep-group-requires Inv-loop μ-loop
 sweep-group-requires c κs = sweep-part (c .before .before .loop .inv .0) (omega arith) (c .before .loop-test .taken)
-
-add-r : tie.Need-add-r Inv-loop μ-loop
-add-r c = omega arith
-
-loop-less : tie.Need-loop-less Inv-loop μ-loop
-loop-less c = omega arith
 
 loop-again : tie.Need-loop-again Inv-loop μ-loop
 loop-again c = (
@@ -52,4 +40,4 @@ returns c = c .before .before .sweep .ensures
 pub seed-spec : {M : Type 1} → statement M
 seed-spec =
     tie.close
-    (tie.spec Inv-loop μ-loop mul-rows loop-holds add-loop sweep-group-requires add-r loop-less loop-again sweep-requires same-length returns)
+    (tie.spec Inv-loop μ-loop (λ c. omega arith) loop-holds (λ c. omega arith) sweep-group-requires (λ c. omega arith) (λ c. omega arith) loop-again sweep-requires same-length returns)

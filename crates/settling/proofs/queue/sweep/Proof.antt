@@ -18,29 +18,11 @@ abbrev μ-loop : tie.MeasureT-loop
 loop-holds : tie.Need-loop-holds Inv-loop μ-loop
 loop-holds c = (search needs, refl)
 
-cast-end : tie.Need-cast-end Inv-loop μ-loop
-cast-end c = search needs
-
 put-row-requires : tie.Need-put-row-requires Inv-loop μ-loop
 put-row-requires c κs = sweep-room (c .before .before .loop .inv .0) (c .before .loop-test .taken)
 
-mul-end : tie.Need-mul-end Inv-loop μ-loop
-mul-end c = search needs
-
-shared-slice-read-end : tie.Need-shared-slice-read-end Inv-loop μ-loop
-shared-slice-read-end c = search needs
-
-cast-end-2 : tie.Need-cast-end-2 Inv-loop μ-loop
-cast-end-2 c = search needs
-
 add-end : tie.Need-add-end Inv-loop μ-loop
 add-end c = omega (arith, sweep-room (c .before .before .before .before .before .before .loop .inv .0) (c .before .before .before .before .before .loop-test .taken), flag-le (getD (c .before .before .before .before .before .before .before .before .before .args .tally .now) (c .before .before .before .before .before .before .loop .r) 0 / tallyUnit))
-
-add-r : tie.Need-add-r Inv-loop μ-loop
-add-r c = search needs
-
-loop-less : tie.Need-loop-less Inv-loop μ-loop
-loop-less c = search needs
 
 loop-again : tie.Need-loop-again Inv-loop μ-loop
 unfolding counts
@@ -59,14 +41,14 @@ sweep-spec =
     Inv-loop
     μ-loop
     loop-holds
-    cast-end
+    (λ c. search needs)
     put-row-requires
-    mul-end
-    shared-slice-read-end
-    cast-end-2
+    (λ c. search needs)
+    (λ c. search needs)
+    (λ c. search needs)
     add-end
-    add-r
-    loop-less
+    (λ c. search needs)
+    (λ c. search needs)
     loop-again
     same-length
     returns)

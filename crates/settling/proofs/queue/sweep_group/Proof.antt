@@ -5,24 +5,6 @@ use Rattle.settling.specs.Queue.{sweep-none}
 use Rattle.settling.proofs.queue.sweep_group.Statement.{statement}
 use Rattle.settling.proofs.queue.sweep_group.Tie as tie
 
-add-to : tie.Need-add-to
-add-to c = search needs
-
-mul-no-ones : tie.Need-mul-no-ones
-mul-no-ones c = search needs
-
-sub-no-ones : tie.Need-sub-no-ones
-sub-no-ones c = search needs
-
-part-no-ones-start : tie.Need-part-no-ones-start
-part-no-ones-start c = search needs
-
-part-no-ones-end : tie.Need-part-no-ones-end
-part-no-ones-end c = search needs
-
-no-ones-requires : tie.Need-no-ones-requires
-no-ones-requires c κs = search needs
-
 returns : tie.Need-returns
 returns c = sweep-none (c .before .before .before .before .before .pre) (sym (c .before .no-ones .ensures) ∙ c .if1 .taken)
 
@@ -38,4 +20,4 @@ returns-2 c = c .before .before .sweep .ensures
 pub sweep-group-spec : {M : Type 1} → statement M
 sweep-group-spec =
     tie.close
-    (tie.spec add-to mul-no-ones sub-no-ones part-no-ones-start part-no-ones-end no-ones-requires returns sweep-requires same-length returns-2)
+    (tie.spec (λ c. search needs) (λ c. search needs) (λ c. search needs) (λ c. search needs) (λ c. search needs) (λ c κs. search needs) returns sweep-requires same-length returns-2)

@@ -7,26 +7,17 @@ use Rattle.settling.specs.Takes.{rows-sum, rows-tally, rows-some, remove
 use Rattle.settling.proofs.settle.remove.Statement.{statement}
 use Rattle.settling.proofs.settle.remove.Tie as tie
 
-mul-tally : tie.Need-mul-tally
-mul-tally c = search needs
-
 slice-write-tally : tie.Need-slice-write-tally
 slice-write-tally c = c .pre .tally-row
 
 slice-write-sum : tie.Need-slice-write-sum
 slice-write-sum c = c .pre .sum-row
 
-mul-rest : tie.Need-mul-rest
-mul-rest c = search needs
-
 slice-read-rest : tie.Need-slice-read-rest
 slice-read-rest c = rows-tally (c .before .pre)
 
 sub-rest : tie.Need-sub-rest
 sub-rest c = rows-some (c .before .pre)
-
-mul-tally-2 : tie.Need-mul-tally-2
-mul-tally-2 c = search needs
 
 slice-write-tally-2 : tie.Need-slice-write-tally-2
 slice-write-tally-2 c = rows-tally (c .before .pre)
@@ -51,13 +42,13 @@ pub remove-spec : {M : Type 1} → statement M
 remove-spec =
     tie.close
     (tie.spec
-    mul-tally
+    (λ c. search needs)
     slice-write-tally
     slice-write-sum
-    mul-rest
+    (λ c. search needs)
     slice-read-rest
     sub-rest
-    mul-tally-2
+    (λ c. search needs)
     slice-write-tally-2
     slice-read-sum
     slice-write-sum-2

@@ -6,9 +6,6 @@ use Rattle.settling.specs.Takes.{one-long, one-few, one-small, one-shift
 use Rattle.settling.proofs.settle.settle.Statement.{statement}
 use Rattle.settling.proofs.settle.settle.Tie as tie
 
-cast-r : tie.Need-cast-r
-cast-r c = search needs
-
 mul-w : tie.Need-mul-w
 mul-w c = omega (arith, one-few (c .before .before .before .before .pre))
 
@@ -21,9 +18,6 @@ slice-read-x c = one-long (c .before .before .before .before .before .before .pr
 cast-j : tie.Need-cast-j
 cast-j c = omega (arith, one-small (c .before .before .before .before .before .before .pre))
 
-cast-j-2 : tie.Need-cast-j-2
-cast-j-2 c = search needs
-
 sub-j : tie.Need-sub-j
 sub-j c = omega (arith, one-small (c .before .before .before .before .before .before .pre))
 
@@ -34,10 +28,10 @@ shared-slice-read-p : tie.Need-shared-slice-read-p
 shared-slice-read-p c = one-shift (c .before .before .before .before .before .before .before .pre) refl .0
 
 cast-p : tie.Need-cast-p
-cast-p c = omega (arith, one-shift (c .before .before .before .before .before .before .before .pre) refl .1, c .before .before .before .before .before .before .before .pre .sized .t-max)
+cast-p c = omega (arith, one-shift (c .before .before .before .before .before .before .before .pre) refl .1, c .before .before .before .before .before .before .before .pre .good .t-max)
 
 beside-requires : tie.Need-beside-requires
-beside-requires c κs = (one-shift (c .before .before .before .before .before .before .before .pre) refl .1, c .before .before .before .before .before .before .before .pre .row, c .before .before .before .before .before .before .before .pre .sized .t-max)
+beside-requires c κs = (one-shift (c .before .before .before .before .before .before .before .pre) refl .1, c .before .before .before .before .before .before .before .pre .row, c .before .before .before .before .before .before .before .pre .good .t-max)
 
 mul-t20 : tie.Need-mul-t20
 mul-t20 c = omega (arith, one-place (c .before .before .before .before .before .before .before .before .pre) refl (c .beside .ensures))
@@ -67,12 +61,12 @@ pub settle-spec : {M : Type 1} → statement M
 settle-spec =
     tie.close
     (tie.spec
-    cast-r
+    (λ c. search needs)
     mul-w
     slice-read-w
     slice-read-x
     cast-j
-    cast-j-2
+    (λ c. search needs)
     sub-j
     mul-p
     shared-slice-read-p

@@ -18,21 +18,6 @@ abbrev μ-loop : tie.MeasureT-loop
 loop-holds : tie.Need-loop-holds Inv-loop μ-loop
 loop-holds c = (search needs, gathers-none _)
 
-mul-any : tie.Need-mul-any Inv-loop μ-loop
-mul-any c = search needs
-
-shared-slice-read-any : tie.Need-shared-slice-read-any Inv-loop μ-loop
-shared-slice-read-any c = omega arith
-
-cast-any : tie.Need-cast-any Inv-loop μ-loop
-cast-any c = search needs
-
-add-i : tie.Need-add-i Inv-loop μ-loop
-add-i c = omega arith
-
-loop-less : tie.Need-loop-less Inv-loop μ-loop
-loop-less c = omega arith
-
 loop-again : tie.Need-loop-again Inv-loop μ-loop
 loop-again c = (omega arith, gathers-ones (c .before .before .before .args .l .now) (c .before .before .loop .inv .1))
 
@@ -42,4 +27,4 @@ returns c = gathers-all (c .before .loop .inv .1) (omega (arith, c .loop-test .l
 pub no-ones-spec : {M : Type 1} → statement M
 no-ones-spec =
     tie.close
-    (tie.spec Inv-loop μ-loop loop-holds mul-any shared-slice-read-any cast-any add-i loop-less loop-again returns)
+    (tie.spec Inv-loop μ-loop loop-holds (λ c. search needs) (λ c. omega arith) (λ c. search needs) (λ c. omega arith) (λ c. omega arith) loop-again returns)

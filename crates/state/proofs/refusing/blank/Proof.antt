@@ -5,11 +5,8 @@ use borrow.Author.Needs.{needs}
 use Rattle.state.proofs.refusing.blank.Statement.{statement}
 use Rattle.state.proofs.refusing.blank.Tie as tie
 
-blank-requires : tie.Need-blank-requires
-blank-requires c κs = search needs
-
 returns : tie.Need-returns
 returns c = ap (λ (m : Made). m .answer) (c .blank .ensures)
 
 pub blank-spec : {M : Type 1} → statement M
-blank-spec = tie.close (tie.spec blank-requires returns)
+blank-spec = tie.close (tie.spec (λ c κs. search needs) returns)

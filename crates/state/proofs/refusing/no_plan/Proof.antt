@@ -1,5 +1,5 @@
 -- `no_plan` meets its contract. Assumes nothing.
-use Rattle.state.specs.Refusals.{early}
+use Rattle.state.specs.Refusing.{early}
 use Rattle.state.proofs.refusing.no_plan.Statement.{statement}
 use Rattle.state.proofs.refusing.no_plan.Tie as tie
 

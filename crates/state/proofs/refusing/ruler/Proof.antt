@@ -5,11 +5,8 @@ use borrow.Author.Needs.{needs}
 use Rattle.state.proofs.refusing.ruler.Statement.{statement}
 use Rattle.state.proofs.refusing.ruler.Tie as tie
 
-ruler-requires : tie.Need-ruler-requires
-ruler-requires c κs = search needs
-
 returns : tie.Need-returns
 returns c = ap (λ (m : Made). m .answer) (c .ruler .ensures)
 
 pub ruler-spec : {M : Type 1} → statement M
-ruler-spec = tie.close (tie.spec ruler-requires returns)
+ruler-spec = tie.close (tie.spec (λ c κs. search needs) returns)

@@ -2,7 +2,7 @@
 use Rattle.refusals.specs.declared.Check.the-variants.{Pass, Stop}
 use Rattle.refusals.specs.declared.Refusal.the-variants.{Shift}
 use borrow.Author.Tests.{lt-ltb, le-ltb}
-use Rattle.state.specs.RefusalLaws.{early-no-plan, early-outside, early-inside}
+use Rattle.state.specs.RefusingLaws.{early-no-plan, early-outside, early-inside}
 use Rattle.state.proofs.refusing.shift.Statement.{statement}
 use Rattle.state.proofs.refusing.shift.Tie as tie
 

@@ -5,11 +5,8 @@ use borrow.Author.Needs.{needs}
 use Rattle.state.proofs.refusing.straight.Statement.{statement}
 use Rattle.state.proofs.refusing.straight.Tie as tie
 
-straight-requires : tie.Need-straight-requires
-straight-requires c κs = search needs
-
 returns : tie.Need-returns
 returns c = ap (λ (m : Made). m .answer) (c .straight .ensures)
 
 pub straight-spec : {M : Type 1} → statement M
-straight-spec = tie.close (tie.spec straight-requires returns)
+straight-spec = tie.close (tie.spec (λ c κs. search needs) returns)

@@ -5,15 +5,6 @@ use Rattle.tables.specs.Counting.{ready-top, ready-bottom, room-top, roo
 use Rattle.tables.proofs.marks.note.Statement.{statement}
 use Rattle.tables.proofs.marks.note.Tie as tie
 
-weight-requires : tie.Need-weight-requires
-weight-requires c κs = search needs
-
-top-requires : tie.Need-top-requires
-top-requires c κs = search needs
-
-bottom-requires : tie.Need-bottom-requires
-bottom-requires c κs = search needs
-
 put-in-requires : tie.Need-put-in-requires
 put-in-requires c κs = (ready-top (c .before .before .before .before .before .pre) (c .before .before .top .ensures) (c .before .before .before .before .before .pre .long), room-top (c .before .before .before .before .before .pre) (c .before .before .top .ensures) (c .before .before .before .weight .ensures))
 
@@ -23,13 +14,10 @@ put-in-requires-2 c κs = (
   room-bottom (c .before .before .before .before .before .before .before .before .before .pre) (c .before .before .before .before .before .before .top .ensures) (c .before .before .before .before .before .bottom .ensures) (c .before .before .before .before .before .before .before .weight .ensures) (c .before .before .before .put-in .ensures),
 )
 
-same-length : tie.Need-same-length
-same-length c = search needs
-
 returns : tie.Need-returns
 returns c = noted (c .before .before .before .before .before .before .before .before .before .top .ensures) (c .before .before .before .before .before .before .before .before .bottom .ensures) (c .before .before .before .before .before .before .before .before .before .before .weight .ensures) (c .before .before .before .before .before .before .put-in .ensures) (c .before .before .put-in2 .ensures)
 
 pub note-spec : {M : Type 1} → statement M
 note-spec =
     tie.close
-    (tie.spec weight-requires top-requires bottom-requires put-in-requires put-in-requires-2 same-length returns)
+    (tie.spec (λ c κs. search needs) (λ c κs. search needs) (λ c κs. search needs) put-in-requires put-in-requires-2 (λ c. search needs) returns)

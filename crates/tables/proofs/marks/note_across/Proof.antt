@@ -19,16 +19,16 @@ loop-holds : tie.Need-loop-holds Inv-loop μ-loop
 loop-holds c = noting-start (c .before .before .before .pre .1 .1) (c .before .before .before .pre .1 .0) (omega (arith, c .before .before .before .pre .0 .2)) (c .before .before .before .pre .0 .3)
 
 mul-c : tie.Need-mul-c Inv-loop μ-loop
-mul-c c = omega (arith, c .before .before .before .before .before .pre .0 .1, c .before .before .before .before .before .pre .0 .0 .marks-long, c .before .before .before .before .before .pre .0 .0 .sized .places-max)
+mul-c c = omega (arith, c .before .before .before .before .before .pre .0 .1, c .before .before .before .before .before .pre .0 .0 .marks-long, c .before .before .before .before .before .pre .0 .0 .good .places-max)
 
 cast-c : tie.Need-cast-c Inv-loop μ-loop
 cast-c c = omega (arith, noting-bit (c .before .loop .inv) (c .loop-test .taken))
 
 add-c : tie.Need-add-c Inv-loop μ-loop
-add-c c = omega (arith, c .before .before .before .before .before .pre .0 .1, c .before .before .before .before .before .pre .0 .0 .marks-long, c .before .before .before .before .before .pre .0 .0 .sized .places-max, noting-bit (c .before .loop .inv) (c .loop-test .taken))
+add-c c = omega (arith, c .before .before .before .before .before .pre .0 .1, c .before .before .before .before .before .pre .0 .0 .marks-long, c .before .before .before .before .before .pre .0 .0 .good .places-max, noting-bit (c .before .loop .inv) (c .loop-test .taken))
 
 cast-t17 : tie.Need-cast-t17 Inv-loop μ-loop
-cast-t17 c = omega (arith, c .before .before .before .before .before .pre .0 .1, c .before .before .before .before .before .pre .0 .0 .marks-long, c .before .before .before .before .before .pre .0 .0 .sized .places-max, noting-bit (c .before .loop .inv) (c .loop-test .taken))
+cast-t17 c = omega (arith, c .before .before .before .before .before .pre .0 .1, c .before .before .before .before .before .pre .0 .0 .marks-long, c .before .before .before .before .before .pre .0 .0 .good .places-max, noting-bit (c .before .loop .inv) (c .loop-test .taken))
 
 note-next-requires : tie.Need-note-next-requires Inv-loop μ-loop
 note-next-requires c κs = (noting-due (c .before .before .loop .inv) (c .before .loop-test .taken) (c .before .before .before .before .before .before .pre .0 .0), noting-reached (c .before .before .loop .inv) (c .before .loop-test .taken))

@@ -19,16 +19,16 @@ loop-holds : tie.Need-loop-holds Inv-loop μ-loop
 loop-holds c = noting-start (c .before .before .before .pre .1 .1) (c .before .before .before .pre .1 .0 .0) (omega (arith, c .before .before .before .pre .0 .2)) (c .before .before .before .pre .0 .3)
 
 mul-c : tie.Need-mul-c Inv-loop μ-loop
-mul-c c = omega (arith, c .before .before .before .before .before .pre .0 .1, c .before .before .before .before .before .pre .0 .0 .marks-long, c .before .before .before .before .before .pre .0 .0 .sized .places-max)
+mul-c c = omega (arith, c .before .before .before .before .before .pre .0 .1, c .before .before .before .before .before .pre .0 .0 .marks-long, c .before .before .before .before .before .pre .0 .0 .good .places-max)
 
 cast-c : tie.Need-cast-c Inv-loop μ-loop
 cast-c c = omega (arith, noting-bit (c .before .loop .inv) (c .loop-test .taken))
 
 add-c : tie.Need-add-c Inv-loop μ-loop
-add-c c = omega (arith, c .before .before .before .before .before .pre .0 .1, c .before .before .before .before .before .pre .0 .0 .marks-long, c .before .before .before .before .before .pre .0 .0 .sized .places-max, noting-bit (c .before .loop .inv) (c .loop-test .taken))
+add-c c = omega (arith, c .before .before .before .before .before .pre .0 .1, c .before .before .before .before .before .pre .0 .0 .marks-long, c .before .before .before .before .before .pre .0 .0 .good .places-max, noting-bit (c .before .loop .inv) (c .loop-test .taken))
 
 cast-t17 : tie.Need-cast-t17 Inv-loop μ-loop
-cast-t17 c = omega (arith, c .before .before .before .before .before .pre .0 .1, c .before .before .before .before .before .pre .0 .0 .marks-long, c .before .before .before .before .before .pre .0 .0 .sized .places-max, noting-bit (c .before .loop .inv) (c .loop-test .taken))
+cast-t17 c = omega (arith, c .before .before .before .before .before .pre .0 .1, c .before .before .before .before .before .pre .0 .0 .marks-long, c .before .before .before .before .before .pre .0 .0 .good .places-max, noting-bit (c .before .loop .inv) (c .loop-test .taken))
 
 sub-t14 : tie.Need-sub-t14 Inv-loop μ-loop
 sub-t14 c = omega (arith, c .before .before .before .before .before .before .pre .1 .0 .0 .passed)
@@ -43,7 +43,7 @@ loop-less : tie.Need-loop-less Inv-loop μ-loop
 loop-less c = dropped-less 64 (c .before .before .before .before .before .before .loop .rest) (c .before .before .before .before .before .before .loop .inv .word .small) (c .before .before .before .before .before .loop-test .taken)
 
 loop-again : tie.Need-loop-again Inv-loop μ-loop
-loop-again c = noting-more (c .before .before .before .before .before .before .loop .inv) (c .before .before .before .before .before .loop-test .taken) (c .before .before .before .before .before .before .before .before .before .before .pre .0 .0) (noted-here (c .before .before .before .before .before .before .before .before .before .before .pre .0 .0 .sized) (noting-reached (c .before .before .before .before .before .before .loop .inv) (c .before .before .before .before .before .loop-test .taken)) (omega (arith, c .before .before .before .before .before .before .before .before .before .before .pre .1 .0 .1, noting-bit (c .before .before .before .before .before .before .loop .inv) (c .before .before .before .before .before .loop-test .taken))) (c .before .before .note .ensures)) (noting-reached (c .before .before .before .before .before .before .loop .inv) (c .before .before .before .before .before .loop-test .taken))
+loop-again c = noting-more (c .before .before .before .before .before .before .loop .inv) (c .before .before .before .before .before .loop-test .taken) (c .before .before .before .before .before .before .before .before .before .before .pre .0 .0) (noted-here (c .before .before .before .before .before .before .before .before .before .before .pre .0 .0 .good) (noting-reached (c .before .before .before .before .before .before .loop .inv) (c .before .before .before .before .before .loop-test .taken)) (omega (arith, c .before .before .before .before .before .before .before .before .before .before .pre .1 .0 .1, noting-bit (c .before .before .before .before .before .before .loop .inv) (c .before .before .before .before .before .loop-test .taken))) (c .before .before .note .ensures)) (noting-reached (c .before .before .before .before .before .before .loop .inv) (c .before .before .before .before .before .loop-test .taken))
 
 same-length : tie.Need-same-length Inv-loop μ-loop
 same-length c = seen-long (c .before .loop .inv .seen .seen) ∙ sym (seen-long (c .before .before .before .before .before .pre .1 .1 .seen))

@@ -18,7 +18,7 @@ abbrev μ-loop : tie.MeasureT-loop
 μ-loop n t shifts marks first tally₀ at₀ i₀ tally at i = length marks - i
 
 start-requires : tie.Need-start-requires Inv-loop μ-loop
-start-requires c κs = c .before .before .before .pre .0 .sized
+start-requires c κs = c .before .before .before .pre .0 .good
 
 cast-pass-zeros : tie.Need-cast-pass-zeros Inv-loop μ-loop
 cast-pass-zeros c = omega (arith, c .struct-known .given)
@@ -27,7 +27,7 @@ mul-pass-zeros : tie.Need-mul-pass-zeros Inv-loop μ-loop
 mul-pass-zeros c = omega (arith, c .struct-known .given)
 
 pass-zeros-requires : tie.Need-pass-zeros-requires Inv-loop μ-loop
-pass-zeros-requires c κs = omega (arith, c .struct-known .given, c .before .before .before .before .before .pre .0 .marks-long, c .before .before .before .before .before .pre .0 .sized .places-max)
+pass-zeros-requires c κs = omega (arith, c .struct-known .given, c .before .before .before .before .before .pre .0 .marks-long, c .before .before .before .before .before .pre .0 .good .places-max)
 
 loop-holds : tie.Need-loop-holds Inv-loop μ-loop
 loop-holds c = (omega (arith, c .pass-zeros .ensures .0 .order), reached-on _ (omega arith) (c .before .before .start .ensures), scanned-clear (c .pass-zeros .ensures .0) (scanned-first (8 * (c .before .before .before .before .before .before .args .first .0 / 64 * 8)) (omega arith) (scanned-start (c .before .before .before .before .before .before .args .marks .now) (c .before .before .before .before .before .before .args .first .0) (c .before .before .before .before .before .before .pre .1))))
@@ -36,10 +36,10 @@ note-word-requires : tie.Need-note-word-requires Inv-loop μ-loop
 note-word-requires c κs = ((c .before .before .before .before .before .before .before .before .before .pre .0, c .before .loop-test .taken, c .before .before .loop .inv .0), (c .before .before .loop .inv .1, c .before .before .loop .inv .2))
 
 add-pass-zeros : tie.Need-add-pass-zeros Inv-loop μ-loop
-add-pass-zeros c = omega (arith, c .before .before .before .before .loop-test .taken, c .before .before .before .before .before .before .before .before .before .before .before .before .pre .0 .marks-long, c .before .before .before .before .before .before .before .before .before .before .before .before .pre .0 .sized .places-max)
+add-pass-zeros c = omega (arith, c .before .before .before .before .loop-test .taken, c .before .before .before .before .before .before .before .before .before .before .before .before .pre .0 .marks-long, c .before .before .before .before .before .before .before .before .before .before .before .before .pre .0 .good .places-max)
 
 pass-zeros-requires-2 : tie.Need-pass-zeros-requires-2 Inv-loop μ-loop
-pass-zeros-requires-2 c κs = omega (arith, c .before .before .before .before .loop-test .taken, c .before .before .before .before .before .before .before .before .before .before .before .before .pre .0 .marks-long, c .before .before .before .before .before .before .before .before .before .before .before .before .pre .0 .sized .places-max)
+pass-zeros-requires-2 c κs = omega (arith, c .before .before .before .before .loop-test .taken, c .before .before .before .before .before .before .before .before .before .before .before .before .pre .0 .marks-long, c .before .before .before .before .before .before .before .before .before .before .before .before .pre .0 .good .places-max)
 
 loop-less : tie.Need-loop-less Inv-loop μ-loop
 loop-less c = omega (arith, c .pass-zeros2 .ensures .0 .order, c .before .before .before .before .before .loop-test .taken)

@@ -6,30 +6,21 @@ use Rattle.tables.proofs.marks.note_next.Statement.{statement}
 use Rattle.tables.proofs.marks.note_next.Tie as tie
 
 reach-requires : tie.Need-reach-requires
-reach-requires c κs = (c .before .before .pre .0 .sized, c .before .before .pre .1, omega (arith, due-inside (c .before .before .pre .0) (omega arith)))
-
-cast-t9 : tie.Need-cast-t9
-cast-t9 c = search needs
-
-sub-t10 : tie.Need-sub-t10
-sub-t10 c = search needs
+reach-requires c κs = (c .before .before .pre .0 .good, c .before .before .pre .1, omega (arith, due-inside (c .before .before .pre .0) (omega arith)))
 
 note-requires : tie.Need-note-requires
 note-requires c κs = due-here (c .before .before .before .before .before .before .pre .0) (omega arith) (c .before .before .before .reach .ensures .0) (c .before .before .before .reach .ensures .1)
 
-same-length : tie.Need-same-length
-same-length c = search needs
-
 returns : tie.Need-returns
-returns c = (noted-here (c .before .before .before .before .before .before .before .before .before .pre .0 .sized) (c .before .before .before .before .before .before .reach .ensures .0) (c .before .before .before .before .before .before .reach .ensures .1) (c .before .before .note .ensures), c .before .before .before .before .before .before .reach .ensures .0)
+returns c = (noted-here (c .before .before .before .before .before .before .before .before .before .pre .0 .good) (c .before .before .before .before .before .before .reach .ensures .0) (c .before .before .before .before .before .before .reach .ensures .1) (c .before .before .note .ensures), c .before .before .before .before .before .before .reach .ensures .0)
 
 pub note-next-spec : {M : Type 1} → statement M
 note-next-spec =
     tie.close
     (tie.spec
     reach-requires
-    cast-t9
-    sub-t10
+    (λ c. search needs)
+    (λ c. search needs)
     note-requires
-    same-length
+    (λ c. search needs)
     returns)

@@ -19,19 +19,19 @@ loop-holds : tie.Need-loop-holds Inv-loop μ-loop
 loop-holds c = (omega arith, c .before .before .pre .0 .1, c .before .before .pre .0 .0, notes-none, c .before .before .pre .1)
 
 cast-t13 : tie.Need-cast-t13 Inv-loop μ-loop
-cast-t13 c = omega (arith, due-inside (c .before .loop .inv .2) (c .loop-test .taken), c .before .loop .inv .2 .sized .places-max)
+cast-t13 c = omega (arith, due-inside (c .before .loop .inv .2) (c .loop-test .taken), c .before .loop .inv .2 .good .places-max)
 
 reach-requires : tie.Need-reach-requires Inv-loop μ-loop
-reach-requires c κs = (c .before .loop .inv .2 .sized, c .before .loop .inv .4, omega (arith, due-inside (c .before .loop .inv .2) (c .loop-test .taken)))
+reach-requires c κs = (c .before .loop .inv .2 .good, c .before .loop .inv .4, omega (arith, due-inside (c .before .loop .inv .2) (c .loop-test .taken)))
 
 stretch-requires : tie.Need-stretch-requires Inv-loop μ-loop
-stretch-requires c κs = (c .before .before .loop .inv .2 .sized, c .reach .ensures .0, c .reach .ensures .1, c .before .loop-test .taken)
+stretch-requires c κs = (c .before .before .loop .inv .2 .good, c .reach .ensures .0, c .reach .ensures .1, c .before .loop-test .taken)
 
 note-stretch-requires : tie.Need-note-stretch-requires Inv-loop μ-loop
 note-stretch-requires c κs = ((due-part (c .before .stretch .ensures .2) (c .before .before .before .before .loop .inv .2), c .before .stretch .ensures .1), (c .before .before .reach .ensures .0, c .before .stretch .ensures .0))
 
 add-d : tie.Need-add-d Inv-loop μ-loop
-add-d c = omega (arith, c .before .before .before .before .stretch .ensures .2, due-inside (c .before .before .before .before .before .before .before .loop .inv .2) (c .before .before .before .before .before .before .loop-test .taken), c .before .before .before .before .before .before .before .loop .inv .2 .sized .places-max)
+add-d c = omega (arith, c .before .before .before .before .stretch .ensures .2, due-inside (c .before .before .before .before .before .before .before .loop .inv .2) (c .before .before .before .before .before .before .loop-test .taken), c .before .before .before .before .before .before .before .loop .inv .2 .good .places-max)
 
 loop-less : tie.Need-loop-less Inv-loop μ-loop
 loop-less c = omega (arith, c .before .before .before .before .stretch .ensures .1, c .before .before .before .before .stretch .ensures .2, c .before .before .before .before .before .before .loop-test .taken)

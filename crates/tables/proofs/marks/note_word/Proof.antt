@@ -6,41 +6,14 @@ use Rattle.tables.specs.Stretches.{ones-due, ones-noted}
 use Rattle.tables.proofs.marks.note_word.Statement.{statement}
 use Rattle.tables.proofs.marks.note_word.Tie as tie
 
-mul-c : tie.Need-mul-c
-mul-c c = search needs
-
-word-from-requires : tie.Need-word-from-requires
-word-from-requires c κs = search needs
-
-add-note-places : tie.Need-add-note-places
-add-note-places c = search needs
-
 note-places-requires : tie.Need-note-places-requires
 note-places-requires c κs = ((ones-due (c .before .before .before .before .before .before .pre .0 .0) (c .before .before .before .before .before .before .pre .1 .1) (c .before .before .word-from .ensures) (c .before .if1 .taken), omega arith), c .before .before .before .before .before .before .pre .1 .0)
-
-same-length : tie.Need-same-length
-same-length c = search needs
 
 returns : tie.Need-returns
 returns c = (ones-noted (c .before .before .before .before .before .before .before .before .before .pre .0 .0) (c .before .before .before .before .before .before .before .before .before .pre .1 .1) (c .before .before .before .before .before .word-from .ensures) (c .before .before .before .before .if1 .taken) (c .before .before .note-places .ensures .0), c .before .before .note-places .ensures .1)
 
-add-if2 : tie.Need-add-if2
-add-if2 c = search needs
-
-note-across-requires : tie.Need-note-across-requires
-note-across-requires c κs = search needs
-
-same-length-2 : tie.Need-same-length-2
-same-length-2 c = search needs
-
-returns-2 : tie.Need-returns-2
-returns-2 c = search needs
-
 note-inside-requires : tie.Need-note-inside-requires
 note-inside-requires c κs = ((c .before .before .before .before .before .before .before .before .pre .0 .0, c .before .before .before .before .before .before .before .before .pre .0 .1, c .before .before .before .before .before .before .before .before .pre .0 .2, c .before .before .before .before .word-from .ensures), ((c .before .before .before .before .before .before .before .before .pre .1 .0, omega (arith, c .before .if2 .left)), c .before .before .before .before .before .before .before .before .pre .1 .1))
-
-same-length-3 : tie.Need-same-length-3
-same-length-3 c = search needs
 
 returns-3 : tie.Need-returns-3
 returns-3 c = (c .before .before .note-inside .ensures, reached-on _ (omega arith) (c .before .before .before .before .before .before .before .before .before .before .before .pre .1 .0))
@@ -49,16 +22,16 @@ pub note-word-spec : {M : Type 1} → statement M
 note-word-spec =
     tie.close
     (tie.spec
-    mul-c
-    word-from-requires
-    add-note-places
+    (λ c. search needs)
+    (λ c κs. search needs)
+    (λ c. search needs)
     note-places-requires
-    same-length
+    (λ c. search needs)
     returns
-    add-if2
-    note-across-requires
-    same-length-2
-    returns-2
+    (λ c. search needs)
+    (λ c κs. search needs)
+    (λ c. search needs)
+    (λ c. search needs)
     note-inside-requires
-    same-length-3
+    (λ c. search needs)
     returns-3)

@@ -5,23 +5,11 @@ use Rattle.tables.specs.Beside.{beside-high, beside-low, beside-early, b
 use Rattle.tables.proofs.rows.beside.Statement.{statement}
 use Rattle.tables.proofs.rows.beside.Tie as tie
 
-add-turned : tie.Need-add-turned
-add-turned c = search needs
-
 returns : tie.Need-returns
 returns c = beside-early (c .before .before .pre .0) (c .before .if1 .taken) (c .if2 .taken)
 
 returns-2 : tie.Need-returns-2
 returns-2 c = beside-late (c .before .before .pre .0) (c .before .if1 .taken) (c .before .before .pre .1) (omega (arith, c .if2 .left))
-
-add-turned-2 : tie.Need-add-turned-2
-add-turned-2 c = search needs
-
-sub-turned : tie.Need-sub-turned
-sub-turned c = search needs
-
-add-t11 : tie.Need-add-t11
-add-t11 c = search needs
 
 returns-3 : tie.Need-returns-3
 returns-3 c = beside-high (c .before .before .pre .0) (omega (arith, c .before .if1 .left)) (c .if3 .taken)
@@ -32,4 +20,4 @@ returns-4 c = beside-low (c .before .before .pre .0) (omega (arith, c .before .i
 pub beside-spec : {M : Type 1} → statement M
 beside-spec =
     tie.close
-    (tie.spec add-turned returns returns-2 add-turned-2 sub-turned add-t11 returns-3 returns-4)
+    (tie.spec (λ c. search needs) returns returns-2 (λ c. search needs) (λ c. search needs) (λ c. search needs) returns-3 returns-4)

@@ -4,20 +4,8 @@ use Rattle.tables.specs.Stretches.{run-apart, run-room, run}
 use Rattle.tables.proofs.sweep.note_run.Statement.{statement}
 use Rattle.tables.proofs.sweep.note_run.Tie as tie
 
-weight-requires : tie.Need-weight-requires
-weight-requires c κs = search needs
-
-top-requires : tie.Need-top-requires
-top-requires c κs = search needs
-
-bottom-requires : tie.Need-bottom-requires
-bottom-requires c κs = search needs
-
 sweep-requires : tie.Need-sweep-requires
 sweep-requires c κs = (run-apart (c .before .before .before .before .before .pre .0) (c .before .before .before .before .before .pre .1 .0) (c .before .before .before .before .before .pre .1 .1) (c .before .before .top .ensures) (c .before .bottom .ensures) (c .before .before .before .before .before .pre .0 .long), run-room (c .before .before .before .before .before .pre .0) (c .before .before .before .before .before .pre .1 .0) (c .before .before .before .weight .ensures))
-
-same-length : tie.Need-same-length
-same-length c = search needs
 
 returns : tie.Need-returns
 returns c = run (c .before .before .before .before .before .top .ensures) (c .before .before .before .before .bottom .ensures) (c .before .before .before .before .before .before .weight .ensures) (c .before .before .sweep .ensures)
@@ -25,4 +13,4 @@ returns c = run (c .before .before .before .before .before .top .ensures) (c .be
 pub note-run-spec : {M : Type 1} → statement M
 note-run-spec =
     tie.close
-    (tie.spec weight-requires top-requires bottom-requires sweep-requires same-length returns)
+    (tie.spec (λ c κs. search needs) (λ c κs. search needs) (λ c κs. search needs) sweep-requires (λ c. search needs) returns)

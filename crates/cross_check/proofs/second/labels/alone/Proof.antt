@@ -10,25 +10,7 @@ Inv-loop k label₀ r₀ label r = Unit {0}
 abbrev μ-loop : tie.MeasureT-loop
 μ-loop k label₀ r₀ label r = k - r
 
-loop-holds : tie.Need-loop-holds Inv-loop μ-loop
-loop-holds c = tt
-
-put16-requires : tie.Need-put16-requires Inv-loop μ-loop
-put16-requires c κs = tt
-
-add-r : tie.Need-add-r Inv-loop μ-loop
-add-r c = omega arith
-
-loop-less : tie.Need-loop-less Inv-loop μ-loop
-loop-less c = omega arith
-
-loop-again : tie.Need-loop-again Inv-loop μ-loop
-loop-again c = tt
-
-returns : tie.Need-returns Inv-loop μ-loop
-returns c = tt
-
 pub alone-spec : {M : Type 1} → statement M
 alone-spec =
     tie.close
-    (tie.spec Inv-loop μ-loop loop-holds put16-requires add-r loop-less loop-again returns)
+    (tie.spec Inv-loop μ-loop (λ c. tt) (λ c κs. tt) (λ c. omega arith) (λ c. omega arith) (λ c. tt) (λ c. tt))

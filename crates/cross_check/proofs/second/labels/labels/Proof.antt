@@ -10,53 +10,20 @@ Inv-loop plan erased label₀ end i₀ label i = Unit {0}
 abbrev μ-loop : tie.MeasureT-loop
 μ-loop plan erased label₀ end i₀ label i = end - i
 
-rows-requires : tie.Need-rows-requires Inv-loop μ-loop
-rows-requires c κs = tt
-
-alone-requires : tie.Need-alone-requires Inv-loop μ-loop
-alone-requires c κs = tt
-
-rows-requires-2 : tie.Need-rows-requires-2 Inv-loop μ-loop
-rows-requires-2 c κs = tt
-
-plus-requires : tie.Need-plus-requires Inv-loop μ-loop
-plus-requires c κs = tt
-
-loop-holds : tie.Need-loop-holds Inv-loop μ-loop
-loop-holds c = tt
-
-pass-requires : tie.Need-pass-requires Inv-loop μ-loop
-pass-requires c κs = tt
-
-returns : tie.Need-returns Inv-loop μ-loop
-returns c = tt
-
-add-i : tie.Need-add-i Inv-loop μ-loop
-add-i c = omega arith
-
-loop-less : tie.Need-loop-less Inv-loop μ-loop
-loop-less c = omega arith
-
-loop-again : tie.Need-loop-again Inv-loop μ-loop
-loop-again c = tt
-
-returns-2 : tie.Need-returns-2 Inv-loop μ-loop
-returns-2 c = tt
-
 pub labels-spec : {M : Type 1} → statement M
 labels-spec =
     tie.close
     (tie.spec
     Inv-loop
     μ-loop
-    rows-requires
-    alone-requires
-    rows-requires-2
-    plus-requires
-    loop-holds
-    pass-requires
-    returns
-    add-i
-    loop-less
-    loop-again
-    returns-2)
+    (λ c κs. tt)
+    (λ c κs. tt)
+    (λ c κs. tt)
+    (λ c κs. tt)
+    (λ c. tt)
+    (λ c κs. tt)
+    (λ c. tt)
+    (λ c. omega arith)
+    (λ c. omega arith)
+    (λ c. tt)
+    (λ c. tt))

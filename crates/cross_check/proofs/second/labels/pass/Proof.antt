@@ -10,45 +10,18 @@ Inv-loop plan is-down erased label₀ end joined₀ i₀ label joined i = Unit {
 abbrev μ-loop : tie.MeasureT-loop
 μ-loop plan is-down erased label₀ end joined₀ i₀ label joined i = end - i
 
-places-requires : tie.Need-places-requires Inv-loop μ-loop
-places-requires c κs = tt
-
-loop-holds : tie.Need-loop-holds Inv-loop μ-loop
-loop-holds c = tt
-
-in-turn-requires : tie.Need-in-turn-requires Inv-loop μ-loop
-in-turn-requires c κs = tt
-
-join-requires : tie.Need-join-requires Inv-loop μ-loop
-join-requires c κs = tt
-
-plus-requires : tie.Need-plus-requires Inv-loop μ-loop
-plus-requires c κs = tt
-
-add-i : tie.Need-add-i Inv-loop μ-loop
-add-i c = omega arith
-
-loop-less : tie.Need-loop-less Inv-loop μ-loop
-loop-less c = omega arith
-
-loop-again : tie.Need-loop-again Inv-loop μ-loop
-loop-again c = tt
-
-returns : tie.Need-returns Inv-loop μ-loop
-returns c = tt
-
 pub pass-spec : {M : Type 1} → statement M
 pass-spec =
     tie.close
     (tie.spec
     Inv-loop
     μ-loop
-    places-requires
-    loop-holds
-    in-turn-requires
-    join-requires
-    plus-requires
-    add-i
-    loop-less
-    loop-again
-    returns)
+    (λ c κs. tt)
+    (λ c. tt)
+    (λ c κs. tt)
+    (λ c κs. tt)
+    (λ c κs. tt)
+    (λ c. omega arith)
+    (λ c. omega arith)
+    (λ c. tt)
+    (λ c. tt))

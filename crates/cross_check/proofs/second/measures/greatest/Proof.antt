@@ -10,25 +10,7 @@ Inv-loop a t found₀ d₀ found d = Unit {0}
 abbrev μ-loop : tie.MeasureT-loop
 μ-loop a t found₀ d₀ found d = t - d
 
-loop-holds : tie.Need-loop-holds Inv-loop μ-loop
-loop-holds c = tt
-
-add-d : tie.Need-add-d Inv-loop μ-loop
-add-d c = omega arith
-
-larger-requires : tie.Need-larger-requires Inv-loop μ-loop
-larger-requires c κs = tt
-
-loop-less : tie.Need-loop-less Inv-loop μ-loop
-loop-less c = omega arith
-
-loop-again : tie.Need-loop-again Inv-loop μ-loop
-loop-again c = tt
-
-returns : tie.Need-returns Inv-loop μ-loop
-returns c = tt
-
 pub greatest-spec : {M : Type 1} → statement M
 greatest-spec =
     tie.close
-    (tie.spec Inv-loop μ-loop loop-holds add-d larger-requires loop-less loop-again returns)
+    (tie.spec Inv-loop μ-loop (λ c. tt) (λ c. omega arith) (λ c κs. tt) (λ c. omega arith) (λ c. tt) (λ c. tt))

@@ -10,25 +10,7 @@ Inv-loop plan n any₀ i₀ any i = Unit {0}
 abbrev μ-loop : tie.MeasureT-loop
 μ-loop plan n any₀ i₀ any i = n - i
 
-loop-holds : tie.Need-loop-holds Inv-loop μ-loop
-loop-holds c = tt
-
-equal-before-requires : tie.Need-equal-before-requires Inv-loop μ-loop
-equal-before-requires c κs = tt
-
-add-i : tie.Need-add-i Inv-loop μ-loop
-add-i c = omega arith
-
-loop-less : tie.Need-loop-less Inv-loop μ-loop
-loop-less c = omega arith
-
-loop-again : tie.Need-loop-again Inv-loop μ-loop
-loop-again c = tt
-
-returns : tie.Need-returns Inv-loop μ-loop
-returns c = tt
-
 pub has-equal-spec : {M : Type 1} → statement M
 has-equal-spec =
     tie.close
-    (tie.spec Inv-loop μ-loop loop-holds equal-before-requires add-i loop-less loop-again returns)
+    (tie.spec Inv-loop μ-loop (λ c. tt) (λ c κs. tt) (λ c. omega arith) (λ c. omega arith) (λ c. tt) (λ c. tt))

@@ -10,37 +10,16 @@ Inv-loop plan x d any₀ y₀ any y = Unit {0}
 abbrev μ-loop : tie.MeasureT-loop
 μ-loop plan x d any₀ y₀ any y = x - y
 
-difference-requires : tie.Need-difference-requires Inv-loop μ-loop
-difference-requires c κs = tt
-
-loop-holds : tie.Need-loop-holds Inv-loop μ-loop
-loop-holds c = tt
-
-difference-requires-2 : tie.Need-difference-requires-2 Inv-loop μ-loop
-difference-requires-2 c κs = tt
-
-add-y : tie.Need-add-y Inv-loop μ-loop
-add-y c = omega arith
-
-loop-less : tie.Need-loop-less Inv-loop μ-loop
-loop-less c = omega arith
-
-loop-again : tie.Need-loop-again Inv-loop μ-loop
-loop-again c = tt
-
-returns : tie.Need-returns Inv-loop μ-loop
-returns c = tt
-
 pub meets-before-spec : {M : Type 1} → statement M
 meets-before-spec =
     tie.close
     (tie.spec
     Inv-loop
     μ-loop
-    difference-requires
-    loop-holds
-    difference-requires-2
-    add-y
-    loop-less
-    loop-again
-    returns)
+    (λ c κs. tt)
+    (λ c. tt)
+    (λ c κs. tt)
+    (λ c. omega arith)
+    (λ c. omega arith)
+    (λ c. tt)
+    (λ c. tt))

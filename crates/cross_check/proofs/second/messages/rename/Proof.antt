@@ -10,25 +10,7 @@ Inv-loop end from to label₀ r₀ label r = Unit {0}
 abbrev μ-loop : tie.MeasureT-loop
 μ-loop end from to label₀ r₀ label r = end - r
 
-loop-holds : tie.Need-loop-holds Inv-loop μ-loop
-loop-holds c = tt
-
-rename-row-requires : tie.Need-rename-row-requires Inv-loop μ-loop
-rename-row-requires c κs = tt
-
-add-r : tie.Need-add-r Inv-loop μ-loop
-add-r c = omega arith
-
-loop-less : tie.Need-loop-less Inv-loop μ-loop
-loop-less c = omega arith
-
-loop-again : tie.Need-loop-again Inv-loop μ-loop
-loop-again c = tt
-
-returns : tie.Need-returns Inv-loop μ-loop
-returns c = tt
-
 pub rename-spec : {M : Type 1} → statement M
 rename-spec =
     tie.close
-    (tie.spec Inv-loop μ-loop loop-holds rename-row-requires add-r loop-less loop-again returns)
+    (tie.spec Inv-loop μ-loop (λ c. tt) (λ c κs. tt) (λ c. omega arith) (λ c. omega arith) (λ c. tt) (λ c. tt))

@@ -10,37 +10,16 @@ Inv-loop plan block erased end all₀ r₀ all r = Unit {0}
 abbrev μ-loop : tie.MeasureT-loop
 μ-loop plan block erased end all₀ r₀ all r = end - r
 
-rows-requires : tie.Need-rows-requires Inv-loop μ-loop
-rows-requires c κs = tt
-
-loop-holds : tie.Need-loop-holds Inv-loop μ-loop
-loop-holds c = tt
-
-look-requires : tie.Need-look-requires Inv-loop μ-loop
-look-requires c κs = tt
-
-add-r : tie.Need-add-r Inv-loop μ-loop
-add-r c = omega arith
-
-loop-less : tie.Need-loop-less Inv-loop μ-loop
-loop-less c = omega arith
-
-loop-again : tie.Need-loop-again Inv-loop μ-loop
-loop-again c = tt
-
-returns : tie.Need-returns Inv-loop μ-loop
-returns c = tt
-
 pub is-settled-spec : {M : Type 1} → statement M
 is-settled-spec =
     tie.close
     (tie.spec
     Inv-loop
     μ-loop
-    rows-requires
-    loop-holds
-    look-requires
-    add-r
-    loop-less
-    loop-again
-    returns)
+    (λ c κs. tt)
+    (λ c. tt)
+    (λ c κs. tt)
+    (λ c. omega arith)
+    (λ c. omega arith)
+    (λ c. tt)
+    (λ c. tt))

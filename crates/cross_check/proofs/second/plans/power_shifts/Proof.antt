@@ -11,57 +11,21 @@ Inv-loop n t q base shifts₀ p₀ j₀ shifts p j = Unit {0}
 abbrev μ-loop : tie.MeasureT-loop
 μ-loop n t q base shifts₀ p₀ j₀ shifts p j = 32 - j
 
-remainder-requires : tie.Need-remainder-requires Inv-loop μ-loop
-remainder-requires c κs = tt
-
-remainder-requires-2 : tie.Need-remainder-requires-2 Inv-loop μ-loop
-remainder-requires-2 c κs = tt
-
-loop-holds : tie.Need-loop-holds Inv-loop μ-loop
-loop-holds c = tt
-
-within-requires : tie.Need-within-requires Inv-loop μ-loop
-within-requires c κs = tt
-
-mul-shifts : tie.Need-mul-shifts Inv-loop μ-loop
-mul-shifts c = search needs
-
-array-write-shifts : tie.Need-array-write-shifts Inv-loop μ-loop
-array-write-shifts c = omega arith
-
-times-requires : tie.Need-times-requires Inv-loop μ-loop
-times-requires c κs = tt
-
-remainder-requires-3 : tie.Need-remainder-requires-3 Inv-loop μ-loop
-remainder-requires-3 c κs = tt
-
-add-j : tie.Need-add-j Inv-loop μ-loop
-add-j c = omega arith
-
-loop-less : tie.Need-loop-less Inv-loop μ-loop
-loop-less c = omega arith
-
-loop-again : tie.Need-loop-again Inv-loop μ-loop
-loop-again c = tt
-
-returns : tie.Need-returns Inv-loop μ-loop
-returns c = tt
-
 pub power-shifts-spec : {M : Type 1} → statement M
 power-shifts-spec =
     tie.close
     (tie.spec
     Inv-loop
     μ-loop
-    remainder-requires
-    remainder-requires-2
-    loop-holds
-    within-requires
-    mul-shifts
-    array-write-shifts
-    times-requires
-    remainder-requires-3
-    add-j
-    loop-less
-    loop-again
-    returns)
+    (λ c κs. tt)
+    (λ c κs. tt)
+    (λ c. tt)
+    (λ c κs. tt)
+    (λ c. search needs)
+    (λ c. omega arith)
+    (λ c κs. tt)
+    (λ c κs. tt)
+    (λ c. omega arith)
+    (λ c. omega arith)
+    (λ c. tt)
+    (λ c. tt))

@@ -11,41 +11,17 @@ Inv-loop plan n t any₀ j₀ any j = Unit {0}
 abbrev μ-loop : tie.MeasureT-loop
 μ-loop plan n t any₀ j₀ any j = n - j
 
-loop-holds : tie.Need-loop-holds Inv-loop μ-loop
-loop-holds c = tt
-
-shift-requires : tie.Need-shift-requires Inv-loop μ-loop
-shift-requires c κs = tt
-
-add-j : tie.Need-add-j Inv-loop μ-loop
-add-j c = omega arith
-
-loop-less : tie.Need-loop-less Inv-loop μ-loop
-loop-less c = omega arith
-
-loop-again : tie.Need-loop-again Inv-loop μ-loop
-loop-again c = tt
-
-cast-times : tie.Need-cast-times Inv-loop μ-loop
-cast-times c = search needs
-
-times-requires : tie.Need-times-requires Inv-loop μ-loop
-times-requires c κs = tt
-
-returns : tie.Need-returns Inv-loop μ-loop
-returns c = tt
-
 pub of-shifts-spec : {M : Type 1} → statement M
 of-shifts-spec =
     tie.close
     (tie.spec
     Inv-loop
     μ-loop
-    loop-holds
-    shift-requires
-    add-j
-    loop-less
-    loop-again
-    cast-times
-    times-requires
-    returns)
+    (λ c. tt)
+    (λ c κs. tt)
+    (λ c. omega arith)
+    (λ c. omega arith)
+    (λ c. tt)
+    (λ c. search needs)
+    (λ c κs. tt)
+    (λ c. tt))

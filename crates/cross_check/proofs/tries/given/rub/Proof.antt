@@ -10,37 +10,16 @@ Inv-loop marks seed block₀ places c₀ block c = Unit {0}
 abbrev μ-loop : tie.MeasureT-loop
 μ-loop marks seed block₀ places c₀ block c = places - c
 
-least-of-places-requires : tie.Need-least-of-places-requires Inv-loop μ-loop
-least-of-places-requires c κs = tt
-
-loop-holds : tie.Need-loop-holds Inv-loop μ-loop
-loop-holds c = tt
-
-rub-one-requires : tie.Need-rub-one-requires Inv-loop μ-loop
-rub-one-requires c κs = tt
-
-add-c : tie.Need-add-c Inv-loop μ-loop
-add-c c = omega arith
-
-loop-less : tie.Need-loop-less Inv-loop μ-loop
-loop-less c = omega arith
-
-loop-again : tie.Need-loop-again Inv-loop μ-loop
-loop-again c = tt
-
-returns : tie.Need-returns Inv-loop μ-loop
-returns c = tt
-
 pub rub-spec : {M : Type 1} → statement M
 rub-spec =
     tie.close
     (tie.spec
     Inv-loop
     μ-loop
-    least-of-places-requires
-    loop-holds
-    rub-one-requires
-    add-c
-    loop-less
-    loop-again
-    returns)
+    (λ c κs. tt)
+    (λ c. tt)
+    (λ c κs. tt)
+    (λ c. omega arith)
+    (λ c. omega arith)
+    (λ c. tt)
+    (λ c. tt))

@@ -10,41 +10,17 @@ Inv-loop kind most-n most-t cases tally₀ i₀ tally i = Unit {0}
 abbrev μ-loop : tie.MeasureT-loop
 μ-loop kind most-n most-t cases tally₀ i₀ tally i = cases - i
 
-loop-holds : tie.Need-loop-holds Inv-loop μ-loop
-loop-holds c = tt
-
-seeded-requires : tie.Need-seeded-requires Inv-loop μ-loop
-seeded-requires c κs = tt
-
-one-requires : tie.Need-one-requires Inv-loop μ-loop
-one-requires c κs = tt
-
-note-requires : tie.Need-note-requires Inv-loop μ-loop
-note-requires c κs = tt
-
-add-i : tie.Need-add-i Inv-loop μ-loop
-add-i c = omega arith
-
-loop-less : tie.Need-loop-less Inv-loop μ-loop
-loop-less c = omega arith
-
-loop-again : tie.Need-loop-again Inv-loop μ-loop
-loop-again c = tt
-
-returns : tie.Need-returns Inv-loop μ-loop
-returns c = tt
-
 pub many-spec : {M : Type 1} → statement M
 many-spec =
     tie.close
     (tie.spec
     Inv-loop
     μ-loop
-    loop-holds
-    seeded-requires
-    one-requires
-    note-requires
-    add-i
-    loop-less
-    loop-again
-    returns)
+    (λ c. tt)
+    (λ c κs. tt)
+    (λ c κs. tt)
+    (λ c κs. tt)
+    (λ c. omega arith)
+    (λ c. omega arith)
+    (λ c. tt)
+    (λ c. tt))

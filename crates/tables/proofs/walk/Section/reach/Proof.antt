@@ -13,9 +13,6 @@ Inv-loop n t shifts place index₀ end₀ index end = (index < n) × (end ≡ in
 abbrev μ-loop : tie.MeasureT-loop
 μ-loop n t shifts place index₀ end₀ index end = n - index
 
-cast-place : tie.Need-cast-place Inv-loop μ-loop
-cast-place c = search needs
-
 returns : tie.Need-returns Inv-loop μ-loop
 returns c = (c .before .before .before .pre .1, c .if1 .taken)
 
@@ -55,7 +52,7 @@ reach-spec =
     (tie.spec
     Inv-loop
     μ-loop
-    cast-place
+    (λ c. search needs)
     returns
     loop-holds
     add-index

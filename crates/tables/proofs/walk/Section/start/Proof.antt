@@ -4,14 +4,8 @@ use borrow.Author.Needs.{needs}
 use Rattle.tables.proofs.walk.Section.start.Statement.{statement}
 use Rattle.tables.proofs.walk.Section.start.Tie as tie
 
-shared-slice-read-t5 : tie.Need-shared-slice-read-t5
-shared-slice-read-t5 c = search needs
-
 cast-t6 : tie.Need-cast-t6
 cast-t6 c = omega (arith, c .shared-slice-known .given 0)
 
-returns : tie.Need-returns
-returns c = search needs
-
 pub start-spec : {M : Type 1} → statement M
-start-spec = tie.close (tie.spec shared-slice-read-t5 cast-t6 returns)
+start-spec = tie.close (tie.spec (λ c. search needs) cast-t6 (λ c. search needs))

@@ -5,27 +5,6 @@ use Rattle.tables.specs.Stretches.{stretch-low, stretch-high}
 use Rattle.tables.proofs.walk.Section.stretch.Statement.{statement}
 use Rattle.tables.proofs.walk.Section.stretch.Tie as tie
 
-cast-place : tie.Need-cast-place
-cast-place c = search needs
-
-sub-k : tie.Need-sub-k
-sub-k c = search needs
-
-sub-least : tie.Need-sub-least
-sub-least c = search needs
-
-sub-least-2 : tie.Need-sub-least-2
-sub-least-2 c = search needs
-
-least-requires : tie.Need-least-requires
-least-requires c κs = search needs
-
-sub-least-3 : tie.Need-sub-least-3
-sub-least-3 c = search needs
-
-least-requires-2 : tie.Need-least-requires-2
-least-requires-2 c κs = search needs
-
 returns : tie.Need-returns
 returns c = (stretch-high (omega (arith, c .before .before .before .before .before .before .before .before .before .pre .1 .shift, c .before .before .before .before .before .before .before .before .before .pre .0 .below (c .before .before .before .before .before .before .before .before .before .args .self .index) (c .before .before .before .before .before .before .before .before .before .pre .1 .inside))) (omega (arith, c .least2 .ensures, c .before .before .if1 .taken)) (omega (arith, c .least2 .ensures, c .before .before .before .before .least .ensures, c .before .before .if1 .taken, c .before .before .before .before .before .before .before .before .before .pre)), omega (arith, c .least2 .ensures, c .before .before .before .before .least .ensures, c .before .before .if1 .taken, c .before .before .before .before .before .before .before .before .before .pre), omega (arith, c .least2 .ensures, c .before .before .before .before .least .ensures, c .before .before .if1 .taken, c .before .before .before .before .before .before .before .before .before .pre))
 
@@ -36,12 +15,12 @@ pub stretch-spec : {M : Type 1} → statement M
 stretch-spec =
     tie.close
     (tie.spec
-    cast-place
-    sub-k
-    sub-least
-    sub-least-2
-    least-requires
-    sub-least-3
-    least-requires-2
+    (λ c. search needs)
+    (λ c. search needs)
+    (λ c. search needs)
+    (λ c. search needs)
+    (λ c κs. search needs)
+    (λ c. search needs)
+    (λ c κs. search needs)
     returns
     returns-2)

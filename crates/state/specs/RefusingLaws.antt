@@ -17,7 +17,7 @@ use Rattle.plan.specs.declared.Plan.{Plan}
 use Rattle.commands.specs.declared.Command.{Command}
 use Rattle.commands.specs.declared.Command.the-variants.{NewPlan, SetShift, SetSymbol, MarkOne, MarkRun, Recover, Seal, Show, Figures, Straight, Powers, Ruler}
 use Rattle.state.specs.State.{State}
-use Rattle.state.specs.Refusals.{early, refusalOf}
+use Rattle.state.specs.Refusing.{early, refusalOf}
 
 pub inside-none : (n t c : ℕ) → n ≡ 0 → false ≡ ltb c (n * t)
 inside-none n t c e = rw e (sym (le-ltb c (0 * t) (omega arith)))
