@@ -1,5 +1,5 @@
 -- How each command keeps its meaning: what its function did to the buffers, said of the state.
--- Main results: new-acts, straight-acts, powers-acts, ruler-acts, shifted, symbol-set, one-marked, run-marked, shown.
+-- Main definition: Makes. Main results: blank-makes, straight-makes, powers-makes, ruler-makes, made-good, made-acts, shifted, symbol-set, one-marked, run-marked, shown.
 use mathlib.Core.Path.{_≡_, refl, sym, _∙_, ap, subst}
 use mathlib.Core.Bool.{true}
 use mathlib.Core.List.{List, [], _∷_}
@@ -14,6 +14,7 @@ use Rattle.plan.specs.PlanLaws.{shift-good, blank-good, straight-good, powers-g
 use Rattle.plan.specs.declared.Made.{Made}
 use Rattle.code.specs.Marks.{markBytes, NoSpare}
 use Rattle.lines.specs.Lines.{line, symbolWord}
+use Rattle.commands.specs.declared.Command.{Command}
 use Rattle.commands.specs.declared.Command.the-variants.{NewPlan, SetShift, SetSymbol, MarkOne, MarkRun, Show, Straight, Powers, Ruler}
 use Rattle.state.specs.State.{State, fresh, withPlan, withBlock}
 use Rattle.bits.specs.Bits.{Marked}
@@ -26,40 +27,34 @@ use Rattle.act.specs.declared.Held.{Held}
 
 -- ---- new plans
 
--- the plan beside a good answer is begun
-pub new-acts : {n t : ℕ} (h : Held) {v m v' m' : List ℕ} {a : Made} {r : Held} → a ≡ blankOf n t →
-    (stateOf r v' m' ≡ fresh (a .plan)) × Kept r v' m' × Rest r v m v' m' → Acts (NewPlan n t) h v m [] r v' m'
-new-acts h e b = record { means = unfold Means in (b .0 ∙ ap (λ (x : Made). fresh (x .plan)) e, refl); kept = b .1; rest = b .2 }
+-- a command that makes a plan: its meaning is that plan, fresh; where it is not refused the plan is good
+pub record Makes (c : Command) (x : Made) : Type 0 where
+  pub means : (s s' : State) → s' ≡ fresh (x .plan) → Means c s s' []
+  pub good : (s : State) → refusalOf s c ≡ Pass → planCheck (x .plan) ≡ Pass
 
-pub straight-acts : {n t : ℕ} (h : Held) {v m v' m' : List ℕ} {a : Made} {r : Held} → a ≡ straightOf n t →
-    (stateOf r v' m' ≡ fresh (a .plan)) × Kept r v' m' × Rest r v m v' m' → Acts (Straight n t) h v m [] r v' m'
-straight-acts h e b = record { means = unfold Means in (b .0 ∙ ap (λ (x : Made). fresh (x .plan)) e, refl); kept = b .1; rest = b .2 }
+pub blank-makes : (n t : ℕ) → Makes (NewPlan n t) (blankOf n t)
+unfolding Means refusalOf
+blank-makes n t = record { means = λ s s' e. (e, refl); good = λ s e. blank-good n t e }
 
-pub powers-acts : {n t q : ℕ} (h : Held) {v m v' m' : List ℕ} {a : Made} {r : Held} → a ≡ powersOf n t q →
-    (stateOf r v' m' ≡ fresh (a .plan)) × Kept r v' m' × Rest r v m v' m' → Acts (Powers n t q) h v m [] r v' m'
-powers-acts h e b = record { means = unfold Means in (b .0 ∙ ap (λ (x : Made). fresh (x .plan)) e, refl); kept = b .1; rest = b .2 }
+pub straight-makes : (n t : ℕ) → Makes (Straight n t) (straightOf n t)
+unfolding Means refusalOf
+straight-makes n t = record { means = λ s s' e. (e, refl); good = λ s e. straight-good n t e }
 
-pub ruler-acts : {n : ℕ} (h : Held) {v m v' m' : List ℕ} {a : Made} {r : Held} → a ≡ rulerOf n →
-    (stateOf r v' m' ≡ fresh (a .plan)) × Kept r v' m' × Rest r v m v' m' → Acts (Ruler n) h v m [] r v' m'
-ruler-acts h e b = record { means = unfold Means in (b .0 ∙ ap (λ (x : Made). fresh (x .plan)) e, refl); kept = b .1; rest = b .2 }
+pub powers-makes : (n t q : ℕ) → Makes (Powers n t q) (powersOf n t q)
+unfolding Means refusalOf
+powers-makes n t q = record { means = λ s s' e. (e, refl); good = λ s e. powers-good n t q e }
 
--- a command that makes a plan and is not refused makes a good one
-module _ (s : State) where
-  pub blank-plan : (n t : ℕ) → refusalOf s (NewPlan n t) ≡ Pass → {a : Made} → a ≡ blankOf n t → planCheck (a .plan) ≡ Pass
-  unfolding refusalOf
-  blank-plan n t e f = subst (λ (x : Made). planCheck (x .plan) ≡ Pass) (sym f) (blank-good n t e)
+pub ruler-makes : (n : ℕ) → Makes (Ruler n) (rulerOf n)
+unfolding Means refusalOf
+ruler-makes n = record { means = λ s s' e. (e, refl); good = λ s e. ruler-good n e }
 
-  pub straight-plan : (n t : ℕ) → refusalOf s (Straight n t) ≡ Pass → {a : Made} → a ≡ straightOf n t → planCheck (a .plan) ≡ Pass
-  unfolding refusalOf
-  straight-plan n t e f = subst (λ (x : Made). planCheck (x .plan) ≡ Pass) (sym f) (straight-good n t e)
+-- the same of the answer that has the plan, and the plan begun
+module _ {c : Command} {x a : Made} (k : Makes c x) (e : a ≡ x) where
+  pub made-good : (s : State) → refusalOf s c ≡ Pass → planCheck (a .plan) ≡ Pass
+  made-good s q = subst (λ (y : Made). planCheck (y .plan) ≡ Pass) (sym e) (k .good s q)
 
-  pub powers-plan : (n t q : ℕ) → refusalOf s (Powers n t q) ≡ Pass → {a : Made} → a ≡ powersOf n t q → planCheck (a .plan) ≡ Pass
-  unfolding refusalOf
-  powers-plan n t q e f = subst (λ (x : Made). planCheck (x .plan) ≡ Pass) (sym f) (powers-good n t q e)
-
-  pub ruler-plan : (n : ℕ) → refusalOf s (Ruler n) ≡ Pass → {a : Made} → a ≡ rulerOf n → planCheck (a .plan) ≡ Pass
-  unfolding refusalOf
-  ruler-plan n e f = subst (λ (x : Made). planCheck (x .plan) ≡ Pass) (sym f) (ruler-good n e)
+  pub made-acts : (h : Held) {v m v' m' : List ℕ} {r : Held} → (stateOf r v' m' ≡ fresh (a .plan)) × Kept r v' m' × Rest r v m v' m' → Acts c h v m [] r v' m'
+  made-acts h b = record { means = k .means _ _ (b .0 ∙ ap (λ (y : Made). fresh (y .plan)) e); kept = b .1; rest = b .2 }
 
 -- ---- shifts
 

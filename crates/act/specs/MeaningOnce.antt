@@ -1,10 +1,10 @@
 -- A command that is not refused means one thing: one state after it and one text. And it keeps a state standing.
 -- Main definition: Standing. Main results: means-stands, means-once.
-use mathlib.Core.Path.{_≡_, refl, sym, _∙_, ap, subst}
+use mathlib.Core.Path.{_≡_, refl, sym, _∙_, ap, ap₂, subst}
 use mathlib.Core.Bool.{true}
 use mathlib.Core.List.{List, [], _∷_, map}
 use Prim.Native.Nat.{ℕ}
-use lib.ListN.{length, take, replicate}
+use lib.ListN.{length, replicate}
 use Rattle.refusals.specs.declared.Check.the-variants.{Pass}
 use Rattle.plan.specs.Plans.{blankOf, layoutOf, planCheck, straightOf, powersOf, rulerOf}
 use Rattle.plan.specs.PlanLaws.{good-valid, shift-good}
@@ -16,18 +16,19 @@ use Rattle.code.specs.FiguresOnce.{figures-unique}
 use Rattle.code.specs.Laws.Carrying.{lists-unique}
 use Rattle.code.specs.Laws.MarksLaws.{erasures-erased}
 use Rattle.promises.specs.Building.{carries-single}
-use Rattle.promises.specs.Theorems.{decides-same}
+use Rattle.promises.specs.Once.{decides-once}
 use Rattle.promises.specs.declared.Recovery.{Recovery}
 use Rattle.promises.specs.declared.Recovery.the-variants as recovery
-use Rattle.lines.specs.Lines.{line, looseWord, crossedWord, sealedWord, figuresWord}
+use Rattle.lines.specs.Lines.{line, sealedWord, figuresWord}
 use Rattle.commands.specs.declared.Command.{Command}
 use Rattle.commands.specs.declared.Command.the-variants.{NewPlan, SetShift, SetSymbol, MarkOne, MarkRun, Recover, Seal, Show, Figures, Straight, Powers, Ruler}
 use Rattle.state.specs.State.{State, fresh, withPlan, withBlock}
 use Rattle.state.specs.Refusing.{refusalOf}
 use Rattle.bits.specs.MarkedOnce.{marked-once}
 use Rattle.act.specs.Meaning.{Means, Recovering, Sealing, Figuring, Marking}
+use Rattle.act.specs.RecoveringLaws.{recoveryLine, recoveryState, recovering-is}
 use Rattle.act.specs.StateLaws.{place-inside, mark-inside, run-inside, shift-inside, recover-planned, seal-planned}
-use Rattle.act.specs.ActLaws.{blank-plan, straight-plan, powers-plan, ruler-plan}
+use Rattle.act.specs.ActLaws.{blank-makes, straight-makes, powers-makes, ruler-makes}
 
 -- a state that a job can be in: a plan that is held is good
 pub record Standing (s : State) : Type 0 where
@@ -58,7 +59,7 @@ recovering-stands {s} {s'} k planned r = go (r .answer) refl
 -- a command that is not refused keeps a state standing
 pub means-stands : {s s' : State} (text : List ℕ) → Standing s → (c : Command) → refusalOf s c ≡ Pass → Means c s s' text → Standing s'
 unfolding Means withPlan
-means-stands {s} text k (NewPlan n t) e m = fresh-stands (blankOf n t .plan) (blank-plan s n t e refl) (m .0)
+means-stands {s} text k (NewPlan n t) e m = fresh-stands (blankOf n t .plan) (blank-makes n t .good s e) (m .0)
 means-stands {s} text k (SetShift j p) e m = let h = shift-inside s j p e in rw (m .0) (record { good = λ _. shift-good (s .plan) j p (k .good (h .0)) (h .2) })
 means-stands {s} text k (SetSymbol c v) e m = block-stands _ _ k (place-inside s c v e .0) (m .0 .state)
 means-stands {s} text k (MarkOne c) e m = block-stands _ _ k (mark-inside s c e .0) (m .0 .state)
@@ -67,9 +68,9 @@ means-stands {s} text k Recover e m = recovering-stands k (recover-planned s e) 
 means-stands {s} text k Seal e m = block-stands _ _ k (seal-planned s e) (m .state)
 means-stands {s} text k (Show c) e m = same-stands k (m .0)
 means-stands {s} text k Figures e m = same-stands k (m .state)
-means-stands {s} text k (Straight n t) e m = fresh-stands (straightOf n t .plan) (straight-plan s n t e refl) (m .0)
-means-stands {s} text k (Powers n t q) e m = fresh-stands (powersOf n t q .plan) (powers-plan s n t q e refl) (m .0)
-means-stands {s} text k (Ruler n) e m = fresh-stands (rulerOf n .plan) (ruler-plan s n e refl) (m .0)
+means-stands {s} text k (Straight n t) e m = fresh-stands (straightOf n t .plan) (straight-makes n t .good s e) (m .0)
+means-stands {s} text k (Powers n t q) e m = fresh-stands (powersOf n t q .plan) (powers-makes n t q .good s e) (m .0)
+means-stands {s} text k (Ruler n) e m = fresh-stands (rulerOf n .plan) (ruler-makes n .good s e) (m .0)
 
 -- ---- one meaning
 
@@ -102,25 +103,11 @@ sealing-once {s} {a} {b} {x} {y} good p q =
 
 -- recovery decides one way, and shows one list
 recovering-once : {s a b : State} {x y : List ℕ} → planCheck (s .plan) ≡ Pass → Recovering s a x → Recovering s b y → (a ≡ b) × (x ≡ y)
-recovering-once {s} {a} {b} {x} {y} good p q = go (p .answer) refl
-  where
-    same : (p .answer ≡ q .answer) × (p .list ≡ q .list) × (p .answer ≡ recovery.Recovered → p .block ≡ q .block)
-    same = decides-same (layoutOf (s .plan)) (good-valid (s .plan) good) (erasures-erased (layoutOf (s .plan)) (s .marks)) (record { same = λ c h n. refl }) (p .decides) (q .decides)
-
-    go : (r : Recovery) → p .answer ≡ r → (a ≡ b) × (x ≡ y)
-    go recovery.Recovered e =
-        let f = p .recovered e in
-        let g = q .recovered (sym (same .0) ∙ e) in
-        (f .1 ∙ ap (λ v. withBlock s v (replicate (markBytes (layoutOf (s .plan))) 0)) (same .2 e) ∙ sym (g .1), f .0 ∙ sym (g .0))
-    go (recovery.Loose z) e =
-        let f = p .loose z e in
-        let g = q .loose z (sym (same .0) ∙ e) in
-        (f .1 ∙ sym (g .1), f .0 ∙ ap (λ l. line looseWord (z ∷ take z l)) (same .1) ∙ sym (g .0))
-    go (recovery.Crossed z) e =
-        let f = p .crossed z e in
-        let g = q .crossed z (sym (same .0) ∙ e) in
-        (f .1 ∙ sym (g .1), f .0 ∙ ap (λ l. line crossedWord (z ∷ take z l)) (same .1) ∙ sym (g .0))
-    go (recovery.Refused r) e = absurd (p .decides .not-refused r e)
+recovering-once {s} {a} {b} {x} {y} good p q =
+    let o = decides-once (good-valid (s .plan) good) (erasures-erased (layoutOf (s .plan)) (s .marks)) (p .decides) (q .decides) in
+    let f = recovering-is p in
+    let g = recovering-is q in
+    (f .1 ∙ ap₂ (recoveryState s) (o .0) (o .1) ∙ sym (g .1), f .0 ∙ ap₂ (recoveryLine s) (o .0) (o .2) ∙ sym (g .0))
 
 -- a command that is not refused leaves one state and writes one text
 pub means-once : {s a b : State} {x y : List ℕ} → Standing s → (c : Command) → refusalOf s c ≡ Pass → Means c s a x → Means c s b y → (a ≡ b) × (x ≡ y)

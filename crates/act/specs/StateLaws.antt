@@ -73,19 +73,12 @@ module _ (s : State) where
 
 -- ---- the lengths
 
-pub bytes-of : (p : Plan) → markBytes (layoutOf p) ≡ (p .n * p .t + 7) / 8
-unfolding markBytes layoutOf layout
-bytes-of p = refl
-
 module _ (p : Plan) (g : planCheck p ≡ Pass) where
   pub places-most : p .n * p .t ≤ blockLength
   places-most = good-bounds p g .places-max
 
   pub bytes-most : (p .n * p .t + 7) / 8 ≤ marksLength
   bytes-most = omega (arith, places-most)
-
-  pub bits-enough : (p .n * p .t ≤ 8 * marksLength)
-  bits-enough = omega (arith, places-most)
 
   pub places-fit : (v : List ℕ) → length v ≡ blockLength → p .n * p .t ≤ length v
   places-fit v e = omega (arith, places-most)

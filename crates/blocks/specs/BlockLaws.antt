@@ -1,23 +1,21 @@
 -- How the commands on the whole block keep their meaning: what each did to the buffers, said of the state.
--- Main results: figured, message-number, lent-whole, recovered-acts, sealed-acts.
+-- Main results: figured, lent-whole, recovered-acts, sealed-acts.
 use mathlib.Core.Path.{_≡_, refl, sym, _∙_, ap, subst}
 use mathlib.Core.Bool.{true}
 use mathlib.Core.List.{List, [], _∷_, _++_, map}
-use Prim.Native.Nat.{ℕ, _+_, _-_, _*_, _/_, _<_}
+use Prim.Native.Nat.{ℕ, _+_, _-_, _*_, _/_}
 use native.Mathlib.Omega.{arith}
 use lib.ListN.{length, take, drop, replicate}
 use lib.Seq.{length-front, length-take-le}
-use Rattle.refusals.specs.declared.Check.the-variants.{Pass}
-use Rattle.math.specs.MembersLaws.{length-upTo}
-use Rattle.plan.specs.Layout.{layout, divisor, messageCount}
-use Rattle.plan.specs.Plans.{layoutOf, planCheck}
-use Rattle.plan.specs.PlanLaws.{good-bounds, good-valid}
-use Rattle.plan.specs.declared.Plan.{Plan}
+use Rattle.plan.specs.Layout.{layout, messageCount}
+use Rattle.plan.specs.Plans.{layoutOf}
+use Rattle.plan.specs.PlanLaws.{good-valid}
 use Rattle.code.specs.Codewords.{at}
 use Rattle.code.specs.Marks.{markBytes, NoSpare}
 use Rattle.code.specs.Messages.{Carries}
-use Rattle.code.specs.Laws.ParityCount.{messages, message-lists, length-messages}
+use Rattle.code.specs.Laws.ParityCount.{messages, message-lists}
 use Rattle.code.specs.Figures as code
+use Rattle.promises.specs.Numbers.{message-count-is}
 use Rattle.lines.specs.Lines.{line, figuresWord, sealedWord}
 use Rattle.commands.specs.declared.Command.the-variants.{Recover, Seal, Figures}
 use Rattle.state.specs.State.{withBlock}
@@ -38,17 +36,6 @@ figured {h} {v} {m} k a b c d f e =
     }
 
 -- ---- the whole block
-
--- the number of message places
-pub message-number : (p : Plan) → planCheck p ≡ Pass → length (messages (layoutOf p)) ≡ messageCount (layoutOf p)
-unfolding messageCount
-message-number p g = length-messages (layoutOf p) (good-valid p g) some ∙ ap (λ x. x * layoutOf p .t - (2 * layoutOf p .t - divisor (layoutOf p))) count
-  where
-    count : length (layoutOf p .sections) ≡ layoutOf p .n
-    count = unfold layoutOf layout in length-upTo (p .n)
-
-    some : 0 < length (layoutOf p .sections)
-    some = unfold layoutOf layout in rw (length-upTo (p .n)) (omega (arith, good-bounds p g))
 
 -- the state's own parts, lent
 pub lent-whole : {h : Held} {v m : List ℕ} → Kept h v m → h .planned ≡ true →
@@ -121,7 +108,7 @@ module _ {h : Held} {v m : List ℕ} (k : Kept h v m) (planned : h .planned ≡ 
           block = a;
           carries = carries;
           state = back-state ∙ after;
-          says = f ∙ ap (λ x. line sealedWord (x ∷ [])) (e ∙ sym (message-number (h .plan) g));
+          says = f ∙ ap (λ x. line sealedWord (x ∷ [])) (e ∙ sym (message-count-is (h .plan) g _ (message-lists (layoutOf (h .plan)) ok)));
         };
         kept = back-kept (rw clear (no-marks-no-spare (layoutOf (h .plan)) (length (take ((h .plan .n * h .plan .t + 7) / 8) m))));
         rest = back-rest;

@@ -3,7 +3,7 @@
 use mathlib.Core.Path.{_≡_, refl, sym, _∙_, ap, subst}
 use mathlib.Core.Bool.{true}
 use mathlib.Core.List.{List, [], _∷_, map}
-use Prim.Native.Nat.{ℕ, zero, suc, _+_, _-_, _*_, _≤_, _<_, _/_}
+use Prim.Native.Nat.{ℕ, _+_, _-_, _*_, _≤_, _<_, _/_}
 use native.Mathlib.Omega.{arith}
 use lib.ListN.{length, getD, take, replicate, length-append}
 use borrow.Author.Tests.{eq-eqb}
@@ -11,31 +11,30 @@ use Rattle.math.specs.Padded.{padded}
 use Rattle.plan.specs.Layout.{layout, messageCount}
 use Rattle.bounds.specs.Bounds.{maxT, maxPlaces}
 use Rattle.plan.specs.Plans.{layoutOf, planCheck, countOf, countValue}
-use Rattle.plan.specs.PlanLaws.{good-bounds, good-valid}
+use Rattle.plan.specs.PlanLaws.{good-bounds}
 use Rattle.plan.specs.declared.Plan.{Plan}
 use Rattle.code.specs.Codewords.{at}
 use Rattle.code.specs.Marks.{markBytes, NoSpare, erasures}
 use Rattle.code.specs.Messages.{Carries}
 use Rattle.code.specs.Laws.ParityCount.{messages}
-use Rattle.code.specs.Laws.Carrying.{carried-some}
 use Rattle.calls.specs.Calls.{checkOf, countLent, countedOf, lengthsFit}
 use Rattle.calls.specs.CallsLaws.{passes}
 use Rattle.refusals.specs.declared.Check.{Check}
 use Rattle.refusals.specs.declared.Check.the-variants.{Pass}
 use Rattle.promises.specs.Promises.{Decides, Recovers, Encodes, messageLent}
-use Rattle.promises.specs.Building.{clear-spare, recover-passes, recovered-not-loose, recovered-not-crossed, loose-not-crossed}
+use Rattle.promises.specs.Building.{map-bytes, clear-spare, recover-passes}
+use Rattle.promises.specs.Numbers.{encode-always}
 use Rattle.promises.specs.Answers.{recoveryNumber, recoveryCount}
 use Rattle.refusals.specs.Refusals.{numberOf}
 use Rattle.refusals.specs.declared.Refusal.the-variants as refusal
 use Rattle.promises.specs.declared.Recovery.{Recovery}
 use Rattle.promises.specs.declared.Recovery.the-variants as recovery
 use Rattle.promises.specs.declared.Encoding.{Encoding}
-use Rattle.promises.specs.declared.Encoding.the-variants as encoding
 use Rattle.lines.specs.Lines.{line, recoveredWord, looseWord, crossedWord}
 use Rattle.state.specs.State.{withBlock}
 use Rattle.bits.specs.MarkedLaws.{no-marks-no-spare}
+use Rattle.act.specs.RecoveringLaws.{recovering-by}
 use Rattle.blocks.specs.Wholes.{Whole, Recovered, whole}
-use Rattle.blocks.specs.BlockLaws.{message-number}
 
 -- no message is longer than the block buffer
 pub count-most : (p : Plan) → planCheck p ≡ Pass → messageCount (layoutOf p) ≤ maxPlaces
@@ -58,16 +57,12 @@ marked-is p m good long spare =
 
 -- ---- encoding
 
-map-bytes : (v : List ℕ) → ((c : ℕ) → getD v c 0 < 256) → (l : List ℕ) (i : ℕ) → getD (map (at v) l) i 0 < 256
-map-bytes v h [] i = omega arith
-map-bytes v h (c ∷ l) zero = h c
-map-bytes v h (c ∷ l) (suc i) = map-bytes v h l i
-
 -- the message at the message places is encoded, never refused
 pub carried : (p : Plan) (v d : List ℕ) → planCheck p ≡ Pass → length v ≡ p .n * p .t → ((c : ℕ) → getD v c 0 < 256) →
     d ≡ map (at v) (messages (layoutOf p)) → length d ≡ messageCount (layoutOf p) → (r : Encoding) (v' : List ℕ) → Encodes p d v r v' →
     Carries (layoutOf p) v' (map (at v) (messages (layoutOf p)))
-carried p v d good long bytes e count r v' enc = go r refl
+carried p v d good long bytes e count r v' enc =
+    subst (Carries (layoutOf p) v') e (enc .encoded-to pass (encode-always p d v enc pass (λ i. rw e (map-bytes v bytes (messages (layoutOf p)) i))))
   where
     fits : lengthsFit (p .n) (p .t) (messageCount (layoutOf p)) (messageLent d v) ≡ true
     fits = unfold lengthsFit messageLent layoutOf layout in
@@ -78,15 +73,6 @@ carried p v d good long bytes e count r v' enc = go r refl
 
     pass : checkOf p (messageLent d v) [] ≡ Pass
     pass = sym (passes p (messageLent d v) [] good fits (clear-spare p [] (omega arith) none))
-
-    some : (w : List ℕ) × Carries (layoutOf p) w d
-    some = carried-some (layoutOf p) (good-valid p good) d (count ∙ sym (message-number p good))
-        (λ i. subst (λ x. getD x i 0 < 256) (sym e) (map-bytes v bytes (messages (layoutOf p)) i))
-
-    go : (x : Encoding) → r ≡ x → Carries (layoutOf p) v' (map (at v) (messages (layoutOf p)))
-    go encoding.Encoded q = subst (Carries (layoutOf p) v') e (enc .encoded-to pass q)
-    go encoding.Unsealed q = absurd (enc .unsealed-when pass .0 q (some .0) (some .1))
-    go (encoding.Refused x) q = absurd (enc .not-refused pass x q)
 
 -- ---- recovering
 
@@ -112,51 +98,21 @@ module _ (p : Plan) (v m w : List ℕ) (a : Whole p v m) (w-long : length w ≡ 
   pub crossed-within : (z : ℕ) → r ≡ recovery.Crossed z → length w' ≡ length w → (z ≤ length w') × (z ≤ 2 * maxT)
   crossed-within z e long = let s = decided .crossed-shows z e in within z _ (s .0) (sym (ap recoveryCount e) ∙ s .2) (s .3) long
 
+  -- each answer with what it has written and left
   pub on-recovered : {text m' : List ℕ} {count : ℕ} → r ≡ recovery.Recovered → count ≡ length (erasures (layoutOf p) m) → m' ≡ replicate (length m) 0 →
       text ≡ line recoveredWord (count ∷ []) → Recovered p v m text v' m'
-  on-recovered {text} {m'} e c f t =
+  on-recovered e c f t =
       record {
-        means = record {
-          answer = r;
-          block = v';
-          list = w';
-          decides = decided;
-          recovered = λ _. (t ∙ ap (λ x. line recoveredWord (x ∷ [])) c, unfold withBlock in ap (whole p v') (f ∙ ap (λ x. replicate x 0) (a .marks-long)));
-          loose = λ z q. absurd (recovered-not-loose (sym e ∙ q));
-          crossed = λ z q. absurd (recovered-not-crossed (sym e ∙ q));
-        };
+        means = recovering-by decided (rw e (t ∙ ap (λ x. line recoveredWord (x ∷ [])) c))
+            (rw e (unfold withBlock in ap (whole p v') (f ∙ ap (λ x. replicate x 0) (a .marks-long))));
         spare = rw f (no-marks-no-spare (layoutOf p) (length m));
       }
 
   pub on-loose : {text : List ℕ} (z : ℕ) → r ≡ recovery.Loose z → text ≡ line looseWord (z ∷ take z w') → Recovered p v m text v' m
-  on-loose {text} z e t =
-      record {
-        means = record {
-          answer = r;
-          block = v';
-          list = w';
-          decides = decided;
-          recovered = λ q. absurd (recovered-not-loose (sym q ∙ e));
-          loose = λ y q. let same : z ≡ y = cc in (t ∙ ap (λ x. line looseWord (x ∷ take x w')) same, ap (λ x. whole p x m) (decided .loose-keeps z e));
-          crossed = λ y q. absurd (loose-not-crossed (sym e ∙ q));
-        };
-        spare = a .spare;
-      }
+  on-loose z e t = record { means = recovering-by decided (rw e t) (rw e (ap (λ x. whole p x m) (decided .loose-keeps z e))); spare = a .spare }
 
   pub on-crossed : {text : List ℕ} (z : ℕ) → r ≡ recovery.Crossed z → text ≡ line crossedWord (z ∷ take z w') → Recovered p v m text v' m
-  on-crossed {text} z e t =
-      record {
-        means = record {
-          answer = r;
-          block = v';
-          list = w';
-          decides = decided;
-          recovered = λ q. absurd (recovered-not-crossed (sym q ∙ e));
-          loose = λ y q. absurd (loose-not-crossed (sym q ∙ e));
-          crossed = λ y q. let same : z ≡ y = cc in (t ∙ ap (λ x. line crossedWord (x ∷ take x w')) same, ap (λ x. whole p x m) (decided .crossed-keeps z e));
-        };
-        spare = a .spare;
-      }
+  on-crossed z e t = record { means = recovering-by decided (rw e t) (rw e (ap (λ x. whole p x m) (decided .crossed-keeps z e))); spare = a .spare }
 
   -- the answer by its number and count
   pub by-success : {k : ℕ} → k ≡ recoveryNumber r → k ≡ 0 → r ≡ recovery.Recovered

@@ -1,7 +1,8 @@
 -- Which test gives which answer of checkOf, and what a call that passes says of its plan and buffers.
--- Main results: call-stop, call-next, passes; pass-good, pass-lengths, pass-spare; counted-pass, counted-stop.
+-- Main results: call-stop, call-next, passes; pass-good, pass-lengths, pass-spare; few-marks, few-none; counted-pass, counted-stop.
 use mathlib.Core.Path.{_≡_, refl, sym, _∙_, ap}
-use mathlib.Core.Bool.{Bool, true, false, _&&_}
+use mathlib.Core.Logic.{_⊎_, inl, inr, ⊎-elim}
+use mathlib.Core.Bool.{Bool, true, false, true≢false, _&&_}
 use mathlib.Core.List.{List, []}
 use Prim.Native.Nat.{ℕ, _+_, _*_, _/_, _≤_, _<_}
 use native.Mathlib.Omega.{arith}
@@ -11,15 +12,15 @@ use lib.Seq.{take-all}
 use borrow.Author.Tests.{eqb-true}
 use Rattle.math.specs.Tests.{and-left, and-right}
 use Rattle.bounds.specs.Bounds.{maxPlaces}
-use Rattle.refusals.specs.Refusals.{unless}
-use Rattle.refusals.specs.RefusalLaws.{unless-pass, then-pass}
+use Rattle.refusals.specs.Refusals.{numberOf, unless, _then_}
+use Rattle.refusals.specs.RefusalLaws.{pass-not-stop, stop-same, unless-pass, then-pass}
 use Rattle.refusals.specs.declared.Refusal.{Refusal}
 use Rattle.refusals.specs.declared.Refusal.the-variants.{Length, Spare}
 use Rattle.refusals.specs.declared.Check.{Check}
 use Rattle.refusals.specs.declared.Check.the-variants.{Pass, Stop}
 use Rattle.plan.specs.Layout.{messageCount, layout}
 use Rattle.plan.specs.Plans.{layoutOf, planCheck, countOf}
-use Rattle.plan.specs.PlanLaws.{good-bounds}
+use Rattle.plan.specs.PlanLaws.{plan-refusals, good-bounds}
 use Rattle.plan.specs.declared.Plan.{Plan}
 use Rattle.plan.specs.declared.Count.the-variants.{Is, Not}
 use Rattle.code.specs.Marks.{markBytes, NoSpare}
@@ -168,6 +169,34 @@ module _ (p : Plan) (lent : Lent) (m : List ℕ) (e : checkOf p lent m ≡ Pass)
   pub pass-spare : length m ≡ (p .n * p .t + 7) / 8 → NoSpare (layoutOf p) m
   unfolding NoSpare spareClear layoutOf layout
   pass-spare l = let whole = take-all ((p .n * p .t + 7) / 8) m (omega (arith, l)) in none-marked m (p .n * p .t) (rw whole at (all-of .2))
+
+-- ---- which refusals a call can give: 1 to 4, and 4 only by the marks
+
+then-stop : (a b : Check) {x : Refusal} → (a then b) ≡ Stop x → (a ≡ Stop x) ⊎ (b ≡ Stop x)
+then-stop Pass b e = inr e
+then-stop (Stop y) b e = inl e
+
+unless-stop : (b : Bool) (y : Refusal) {x : Refusal} → unless b y ≡ Stop x → (x ≡ y) × (b ≡ false)
+unless-stop true y e = absurd (pass-not-stop _ e)
+unless-stop false y e = (stop-same (sym e), refl)
+
+call-few : (p : Plan) (lent : Lent) (m : List ℕ) {x : Refusal} → checkOf p lent m ≡ Stop x → (numberOf x < 4) ⊎ ((x ≡ Spare) × (spareClear (p .n * p .t) m ≡ false))
+unfolding checkOf callCheck lentCheck
+call-few p lent m e =
+    let fits = lengthsFit (p .n) (p .t) (messageCount (layoutOf p)) lent in
+    let clear = spareClear (p .n * p .t) m in
+    ⊎-elim
+    (λ a. inl (⊎-elim (λ s. rw (s .0) (omega arith)) (λ s. rw (s .0) (omega arith)) (plan-refusals p a)))
+    (λ a. ⊎-elim (λ s. let q = unless-stop fits Length s in inl (rw (q .0) (omega arith))) (λ s. inr (unless-stop clear Spare s))
+    (then-stop (unless fits Length) (unless clear Spare) a))
+    (then-stop (planCheck p) (lentCheck (p .n * p .t) fits m) e)
+
+pub few-marks : (p : Plan) (lent : Lent) (m : List ℕ) {x : Refusal} → checkOf p lent m ≡ Stop x → numberOf x < 5
+few-marks p lent m e = ⊎-elim (λ h. omega (arith, h)) (λ h. rw (h .0) (omega arith)) (call-few p lent m e)
+
+-- where no marks are lent no spare bit is 1
+pub few-none : (p : Plan) (lent : Lent) {x : Refusal} → checkOf p lent [] ≡ Stop x → numberOf x < 4
+few-none p lent e = ⊎-elim (λ h. h) (λ h. absurd (true≢false (spare-empty (p .n * p .t) ∙ h .1))) (call-few p lent [] e)
 
 -- ---- the count of marks
 

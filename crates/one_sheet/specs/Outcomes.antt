@@ -24,10 +24,7 @@ use Rattle.turns.specs.Sheets.{Sheet}
 use Rattle.turns.specs.Turns.{Same, Turns}
 use Rattle.turns.specs.declared.Turn.{Turn}
 use Rattle.turns.specs.declared.Turn.the-variants.{Wait, End, Stop, On, Bad}
-use Rattle.one_sheet.specs.ParsedLaws.{nothing-empty, whole-size}
-
-zero-one : _≡_ {A = ℕ} 0 1 → ⊥
-zero-one e = omega arith
+use Rattle.one_sheet.specs.ParsedLaws.{zero-one, nothing-empty, whole-size}
 
 -- the line closes the sheet: no command goes on from here
 pub record Closing (o : ℕ) (s : State) (b said : List ℕ) : Type 0 where

@@ -1,5 +1,5 @@
 -- What stands at the front of bytes, taken apart; and that more bytes behind a whole command change nothing.
--- Main results: nothing-empty, whole-size, whole-command, short-few, short-long, parsed-prefix.
+-- Main results: nothing-empty, whole-size, whole-command, short-long, parsed-prefix.
 use mathlib.Core.Path.{_≡_, refl, sym, _∙_, ap, subst}
 use mathlib.Core.Logic.{_≢_, by-cases}
 use mathlib.Core.Bool.{Bool, true, false, cond}
@@ -15,7 +15,8 @@ use Rattle.commands.specs.CommandLaws.{Other, no-size}
 use Rattle.commands.specs.declared.Command.{Command}
 use Rattle.commands.specs.declared.Parsed.the-variants.{Whole, Unknown, Short, Nothing}
 
-zero-one : _≡_ {A = ℕ} 0 1 → ⊥
+-- what different answers come to
+pub zero-one : _≡_ {A = ℕ} 0 1 → ⊥
 zero-one e = omega arith
 
 -- the tests of a first byte x with bytes b behind it
@@ -28,17 +29,17 @@ not-nothing true q c e = zero-one (cc)
 not-nothing false true c e = zero-one (cc)
 not-nothing false false c e = zero-one (cc)
 
-is-whole : (p q : Bool) (d : Command) {c : Command} → cond p Unknown (cond q Short (Whole d)) ≡ Whole c → (p ≡ false) × (q ≡ false)
+is-whole : (p q : Bool) (d : Command) {c : Command} → cond p Unknown (cond q Short (Whole d)) ≡ Whole c → (p ≡ false) × (q ≡ false) × (c ≡ d)
 is-whole true q d e = absurd (zero-one (cc))
 is-whole false true d e = absurd (zero-one (cc))
-is-whole false false d e = (refl, refl)
+is-whole false false d e = (refl, refl, cc)
 
 is-short : (p q : Bool) (d : Command) → cond p Unknown (cond q Short (Whole d)) ≡ Short → q ≡ true
 is-short true q d e = absurd (zero-one (cc))
 is-short false true d e = refl
 is-short false false d e = absurd (zero-one (cc))
 
-none : parsed [] ≡ Nothing
+pub none : parsed [] ≡ Nothing
 unfolding parsed
 none = refl
 
@@ -54,36 +55,9 @@ whole-size (x ∷ b) c e =
     let l : sizeOf x ≤ length (x ∷ b) = ltb-false (length (x ∷ b)) (sizeOf x) (r .1) in
     (omega arith, l)
 
-is-command : (p q : Bool) (d : Command) {c : Command} → cond p Unknown (cond q Short (Whole d)) ≡ Whole c → c ≡ d
-is-command true q d e = absurd (zero-one (cc))
-is-command false true d e = absurd (zero-one (cc))
-is-command false false d e = cc
-
 pub whole-command : (b : List ℕ) (c : Command) → parsed b ≡ Whole c → c ≡ commandOf b
 whole-command [] c e = absurd (zero-one (let q = none in cc))
-whole-command (x ∷ b) c e = is-command (eqb (sizeOf x) 0) (ltb (length (x ∷ b)) (sizeOf x)) (commandOf (x ∷ b)) (sym (parsed-is x b) ∙ e)
-
-size-most : (x : ℕ) → sizeOf x ≤ 6
-unfolding sizeOf
-size-most x = go (eqb x 0x01) (eqb x 0x02) (eqb x 0x03) (eqb x 0x04) (eqb x 0x05) (eqb x 0x06) (eqb x 0x07) (eqb x 0x08) (eqb x 0x09) (eqb x 0x0A) (eqb x 0x0B) (eqb x 0x0C)
-  where
-    pick : (p : Bool) (a b : ℕ) → a ≤ 6 → b ≤ 6 → cond p a b ≤ 6
-    pick true a b h g = h
-    pick false a b h g = g
-
-    go : (p1 p2 p3 p4 p5 p6 p7 p8 p9 p10 p11 p12 : Bool) →
-        cond p1 4 (cond p2 4 (cond p3 4 (cond p4 3 (cond p5 5 (cond p6 1 (cond p7 1 (cond p8 3 (cond p9 1 (cond p10 4 (cond p11 6 (cond p12 2 0))))))))))) ≤ 6
-    go p1 p2 p3 p4 p5 p6 p7 p8 p9 p10 p11 p12 =
-        pick p1 _ _ (omega arith) (pick p2 _ _ (omega arith) (pick p3 _ _ (omega arith) (pick p4 _ _ (omega arith) (pick p5 _ _ (omega arith) (pick p6 _ _ (omega arith)
-        (pick p7 _ _ (omega arith) (pick p8 _ _ (omega arith) (pick p9 _ _ (omega arith) (pick p10 _ _ (omega arith) (pick p11 _ _ (omega arith) (pick p12 _ _ (omega arith) (omega arith))))))))))))
-
--- the bytes of a command that is cut off are at most 5
-pub short-few : (b : List ℕ) → parsed b ≡ Short → length b ≤ 5
-short-few [] e = omega arith
-short-few (x ∷ b) e =
-    let r = is-short (eqb (sizeOf x) 0) (ltb (length (x ∷ b)) (sizeOf x)) (commandOf (x ∷ b)) (sym (parsed-is x b) ∙ e) in
-    let l : length (x ∷ b) < sizeOf x = ltb-true (length (x ∷ b)) (sizeOf x) r in
-    omega (arith, size-most x)
+whole-command (x ∷ b) c e = is-whole (eqb (sizeOf x) 0) (ltb (length (x ∷ b)) (sizeOf x)) (commandOf (x ∷ b)) (sym (parsed-is x b) ∙ e) .2
 
 pub short-long : (b : List ℕ) → parsed b ≡ Short → (0 < length b) × (length b < sizeOf (getD b 0 0))
 short-long [] e = absurd (zero-one (let q = none in cc))

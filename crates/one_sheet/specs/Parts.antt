@@ -29,11 +29,8 @@ use Rattle.turns.specs.Turns.{Same, Turns}
 use Rattle.turns.specs.TurnLaws.{on-unknown, on-refused, on-acts}
 use Rattle.turns.specs.declared.Turn.{Turn}
 use Rattle.turns.specs.declared.Turn.the-variants.{Wait, End, Stop, On}
-use Rattle.one_sheet.specs.ParsedLaws.{nothing-empty, whole-size, short-long, parsed-prefix}
-use Rattle.one_sheet.specs.Outcomes.{outcome, never-waits}
-
-zero-one : _≡_ {A = ℕ} 0 1 → ⊥
-zero-one e = omega arith
+use Rattle.one_sheet.specs.ParsedLaws.{zero-one, nothing-empty, whole-size, short-long, parsed-prefix}
+use Rattle.one_sheet.specs.Outcomes.{Outcome, outcome, on-count, end-count, stop-count, never-waits}
 
 first-same : (a b : List ℕ) → 0 < length a → getD (a ++ b) 0 0 ≡ getD a 0 0
 first-same a b h = List·getD-append a b 0 0 h
@@ -159,94 +156,45 @@ sheet-fed {o} {s} {text} hand parts t = feeds (suc (length (hand ++ joined parts
 -- ---- the turns of perform make such a feed
 
 module _ {h : Held} {v m l hand : List ℕ} {o : ℕ} {turn : Turn} {h' : Held} {v' m' l' : List ℕ} where
-  pub fed-wait : Turns h v m l hand false o turn h' v' m' l' → turn ≡ Wait → {part : List ℕ} {parts : List (List ℕ)} {text : List ℕ} →
-      Fed o (stateOf h v m) (hand ++ part) parts text → Fed o (stateOf h v m) hand (part ∷ parts) text
-  fed-wait t w {part} {parts} {text} f = go (parsed hand) refl
+  -- a turn waits where no command stands whole at the front
+  waits : {last : Bool} → Turns h v m l hand last o turn h' v' m' l' → turn ≡ Wait → (parsed hand ≡ Nothing) ⊎ (parsed hand ≡ Short)
+  waits t w = go (parsed hand) refl
     where
-      go : (p : Parsed) → parsed hand ≡ p → Fed o (stateOf h v m) hand (part ∷ parts) text
-      go Nothing e = more part parts (inl e) f
-      go Short e = more part parts (inr e) f
+      go : (p : Parsed) → parsed hand ≡ p → (parsed hand ≡ Nothing) ⊎ (parsed hand ≡ Short)
+      go Nothing e = inl e
+      go Short e = inr e
       go Unknown e = let g = t .unknown e .0 .stopped in absurd (zero-one (cc))
       go (Whole c) e =
           by-cases (decPass (refusalOf (stateOf h v m) c))
           (λ z. let g = t .goes-on c e z .on in absurd (zero-one (cc)))
           (λ n. let g = t .refused c e n .0 .stopped in absurd (zero-one (cc)))
 
+  pub fed-wait : Turns h v m l hand false o turn h' v' m' l' → turn ≡ Wait → {part : List ℕ} {parts : List (List ℕ)} {text : List ℕ} →
+      Fed o (stateOf h v m) (hand ++ part) parts text → Fed o (stateOf h v m) hand (part ∷ parts) text
+  fed-wait t w {part} {parts} f = more part parts (waits t w) f
+
+  -- a turn that does not wait is the turn on all bytes, of which none come after
+  whole-turn : (last : Bool) → Turns h v m l hand last o turn h' v' m' l' → turn ≢ Wait → Outcome h v m hand o turn h' v' m' l'
+  whole-turn true t n = outcome t
+  whole-turn false t n =
+      ⊎-elim (λ q. absurd (n (q .0))) (λ f. outcome (subst (λ b. Turns h v m l b true o turn h' v' m' l') (append-nil hand) (f [] true))) (prefix-turns t)
+
   pub fed-stop : Turns h v m l hand false o turn h' v' m' l' → (x : Refusal) (count : ℕ) → turn ≡ Stop x count → (parts : List (List ℕ)) → Fed o (stateOf h v m) hand parts (take count l')
-  fed-stop t y count w parts = go (parsed hand) refl
-    where
-      go : (p : Parsed) → parsed hand ≡ p → Fed o (stateOf h v m) hand parts (take count l')
-      go Nothing e = let g = t .nothing-yet e refl .0 in absurd (zero-one (cc))
-      go Short e = let g = t .cut-yet e refl .0 in absurd (zero-one (cc))
-      go Unknown e =
-          let g = t .unknown e .0 in
-          let q = g .stopped in
-          let k : count ≡ g .count = cc in
-          subst (Fed o (stateOf h v m) hand parts) (sym (ap (λ x. take x l') k ∙ g .wrote .text-stands)) (unknown e)
-      go (Whole c) e =
-          by-cases (decPass (refusalOf (stateOf h v m) c))
-          (λ z. let g = t .goes-on c e z .on in absurd (zero-one (cc)))
-          (λ n.
-          let g = t .refused c e n .0 in
-          let q = g .stopped in
-          let k : count ≡ g .count = cc in
-          subst (Fed o (stateOf h v m) hand parts) (sym (ap (λ x. take x l') k ∙ g .wrote .text-stands)) (refused c e n))
+  fed-stop t x count w parts =
+      ⊎-elim (λ q. let e = q .0 in absurd (zero-one (cc))) (λ f. sheet-fed hand parts (stop-count x count w (outcome (f (joined parts) true)) .1 .sheet)) (prefix-turns t)
 
   pub fed-on : {last : Bool} → Turns h v m l hand last o turn h' v' m' l' → (used count : ℕ) → turn ≡ On used count → (parts : List (List ℕ)) (rest : List ℕ) →
       Fed (o + used) (stateOf h' v' m') (drop used hand) parts rest → Fed o (stateOf h v m) hand parts (take count l' ++ rest)
-  fed-on {last} t used count w parts rest f = go (parsed hand) refl
-    where
-      ended-by : (b : Bool) → last ≡ b → parsed hand ≡ Nothing → ⊥
-      ended-by true q e = let g = t .ends e q .0 .ended in zero-one (cc)
-      ended-by false q e = let g = t .nothing-yet e q .0 in zero-one (cc)
-
-      cut-by : (b : Bool) → last ≡ b → parsed hand ≡ Short → ⊥
-      cut-by true q e = let g = t .short e q .0 .stopped in zero-one (cc)
-      cut-by false q e = let g = t .cut-yet e q .0 in zero-one (cc)
-
-      go : (p : Parsed) → parsed hand ≡ p → Fed o (stateOf h v m) hand parts (take count l' ++ rest)
-      go Nothing e = absurd (ended-by last refl e)
-      go Short e = absurd (cut-by last refl e)
-      go Unknown e = let g = t .unknown e .0 .stopped in absurd (zero-one (cc))
-      go (Whole c) e =
-          by-cases (decPass (refusalOf (stateOf h v m) c))
-          (λ z.
-          let g = t .goes-on c e z in
-          let q = g .on in
-          let k : count ≡ g .count = cc in
-          let u : used ≡ sizeOf (getD hand 0 0) = cc in
-          subst (λ x. Fed o (stateOf h v m) hand parts (take x l' ++ rest)) (sym k)
-          (goes-on (stateOf h' v' m') (take (g .count) l') rest c e z (subst (λ x. Means c (stateOf h v m) (stateOf h' v' m') x) (sym (g .wrote .text-stands)) (g .acts .means)) (subst (λ x. Fed (o + x) (stateOf h' v' m') (drop x hand) parts rest) u f)))
-          (λ n. let g = t .refused c e n .0 .stopped in absurd (zero-one (cc)))
+  fed-on {last} t used count w parts rest f =
+      let g = on-count used count w (whole-turn last t (λ e. zero-one (cc))) .3 in
+      goes-on (stateOf h' v' m') (take count l') rest (g .0) (g .1) (g .2) (g .4 .means) (subst (λ x. Fed (o + x) (stateOf h' v' m') (drop x hand) parts rest) (g .3) f)
 
   -- the close, when no more parts come
   pub fed-last : Turns h v m l hand true o turn h' v' m' l' → (count : ℕ) → (turn ≡ End count) ⊎ ((x : Refusal) × (turn ≡ Stop x count)) → Fed o (stateOf h v m) hand [] (take count l')
-  fed-last t count w = go (parsed hand) refl
-    where
-      go : (p : Parsed) → parsed hand ≡ p → Fed o (stateOf h v m) hand [] (take count l')
-      go Nothing e =
-          let g = t .ends e refl .0 in
-          let q = g .ended in
-          let k : count ≡ g .count = ⊎-elim (λ y. cc) (λ y. let z = y .1 in absurd (zero-one (cc))) w in
-          subst (Fed o (stateOf h v m) hand []) (sym (ap (λ x. take x l') k ∙ g .wrote .text-stands)) (ends e)
-      go Short e =
-          let g = t .short e refl .0 in
-          let q = g .stopped in
-          let k : count ≡ g .count = ⊎-elim (λ y. absurd (zero-one (cc))) (λ y. let z = y .1 in cc) w in
-          subst (Fed o (stateOf h v m) hand []) (sym (ap (λ x. take x l') k ∙ g .wrote .text-stands)) (short e)
-      go Unknown e =
-          let g = t .unknown e .0 in
-          let q = g .stopped in
-          let k : count ≡ g .count = ⊎-elim (λ y. absurd (zero-one (cc))) (λ y. let z = y .1 in cc) w in
-          subst (Fed o (stateOf h v m) hand []) (sym (ap (λ x. take x l') k ∙ g .wrote .text-stands)) (unknown e)
-      go (Whole c) e =
-          by-cases (decPass (refusalOf (stateOf h v m) c))
-          (λ z. let g = t .goes-on c e z .on in absurd (⊎-elim (λ y. zero-one (cc)) (λ y. let z = y .1 in zero-one (cc)) w))
-          (λ n.
-          let g = t .refused c e n .0 in
-          let q = g .stopped in
-          let k : count ≡ g .count = ⊎-elim (λ y. absurd (zero-one (cc))) (λ y. let z = y .1 in cc) w in
-          subst (Fed o (stateOf h v m) hand []) (sym (ap (λ x. take x l') k ∙ g .wrote .text-stands)) (refused c e n))
+  unfolding joined
+  fed-last t count w =
+      let c = ⊎-elim (λ e. end-count count e (outcome t) .1) (λ e. stop-count (e .0) count (e .1) (outcome t) .1) w in
+      sheet-fed hand [] (rw (append-nil hand) (c .sheet))
 
 -- ---- when a turn waits
 
@@ -281,17 +229,8 @@ prefix-parsed (x ∷ b) p =
 pub waits-exactly : {h : Held} {v m l b : List ℕ} {last : Bool} {o : ℕ} {turn : Turn} {h' : Held} {v' m' l' : List ℕ} → Turns h v m l b last o turn h' v' m' l' →
     (turn ≡ Wait) ↔ ((last ≡ false) × Prefix b)
 waits-exactly {h} {v} {m} {l} {b} {last} {o} {turn} {h'} {v'} {m'} {l'} t =
-    (λ w. (more-come last refl w, which (parsed b) refl w), λ p. ⊎-elim (λ e. t .nothing-yet e (p .0) .0) (λ e. t .cut-yet e (p .0) .0) (prefix-parsed b (p .1)))
+    (λ w. (more-come last refl w, ⊎-elim (prefix-nothing b) (prefix-short b) (waits t w)), λ p. ⊎-elim (λ e. t .nothing-yet e (p .0) .0) (λ e. t .cut-yet e (p .0) .0) (prefix-parsed b (p .1)))
   where
     more-come : (x : Bool) → last ≡ x → turn ≡ Wait → last ≡ false
     more-come false e w = e
     more-come true e w = absurd (never-waits w (outcome (subst (λ y. Turns h v m l b y o turn h' v' m' l') e t)))
-
-    which : (p : Parsed) → parsed b ≡ p → turn ≡ Wait → Prefix b
-    which Nothing e w = prefix-nothing b e
-    which Short e w = prefix-short b e
-    which Unknown e w = let g = t .unknown e .0 .stopped in absurd (zero-one (cc))
-    which (Whole c) e w =
-        by-cases (decPass (refusalOf (stateOf h v m) c))
-        (λ z. let g = t .goes-on c e z .on in absurd (zero-one (cc)))
-        (λ n. let g = t .refused c e n .0 .stopped in absurd (zero-one (cc)))

@@ -1,26 +1,27 @@
 -- Every job has a sheet: each command that is not refused has a meaning on every state that a job can be in.
 -- Main definitions: Sound, Ready. Main results: means-some, some-sheet, sheet-single.
-use mathlib.Core.Path.{_≡_, refl, sym, _∙_, ap, subst}
+use mathlib.Core.Path.{_≡_, refl, sym, _∙_, subst}
 use mathlib.Core.Logic.{by-cases}
 use mathlib.Core.Bool.{Bool, true, false, cond}
 use mathlib.Core.List.{List, [], _∷_, _++_, map}
 use Prim.Native.Nat.{ℕ, zero, suc, _+_, _*_, _≤_, _<_}
 use native.Mathlib.Omega.{arith}
 use lib.Dec.{eqb}
-use lib.ListN.{length, getD, set, take, drop, replicate, length-set, length-drop, length-replicate}
+use lib.ListN.{length, getD, set, drop, replicate, length-map, length-set, length-drop, length-replicate}
 use lib.Seq.{getD-drop}
 use Rattle.refusals.specs.RefusalLaws.{decPass}
 use Rattle.refusals.specs.declared.Check.the-variants.{Pass}
 use Rattle.plan.specs.Layout.{layout}
-use Rattle.plan.specs.Plans.{withShift, blankOf, layoutOf, planCheck, straightOf, powersOf, rulerOf}
+use Rattle.plan.specs.Plans.{withShift, layoutOf, planCheck}
 use Rattle.plan.specs.PlanLaws.{good-valid}
 use Rattle.plan.specs.declared.Plan.{Plan}
+use Rattle.plan.specs.declared.Made.{Made}
 use Rattle.code.specs.Codewords.{at, Single}
-use Rattle.code.specs.Marks.{markBytes, erasures}
+use Rattle.code.specs.Marks.{markBytes}
 use Rattle.code.specs.Laws.Carrying.{carried-some}
 use Rattle.code.specs.Laws.MarksLaws.{erasures-erased}
 use Rattle.code.specs.Laws.ParityCount.{messages, message-lists}
-use Rattle.promises.specs.Promises.{Decides}
+use Rattle.promises.specs.Building.{map-bytes}
 use Rattle.promises.specs.declared.Recovery.{Recovery}
 use Rattle.promises.specs.declared.Recovery.the-variants as recovery
 use Rattle.commands.specs.Commands.{sizeOf, one, commandOf, parsed}
@@ -28,23 +29,22 @@ use Rattle.commands.specs.declared.Command.{Command}
 use Rattle.commands.specs.declared.Command.the-variants.{NewPlan, SetShift, SetSymbol, MarkOne, MarkRun, Recover, Seal, Show, Figures, Straight, Powers, Ruler}
 use Rattle.commands.specs.declared.Parsed.{Parsed}
 use Rattle.commands.specs.declared.Parsed.the-variants.{Whole, Unknown, Short, Nothing}
-use Rattle.lines.specs.Lines.{line, endWord, recoveredWord, looseWord, crossedWord, sealedWord, symbolWord, figuresWord}
+use Rattle.lines.specs.Lines.{line, endWord, sealedWord, symbolWord, figuresWord}
 use Rattle.state.specs.State.{State, fresh, withPlan, withBlock}
 use Rattle.bits.specs.Bits.{Marked}
 use Rattle.state.specs.Refusing.{refusalOf}
 use Rattle.bits.specs.MarkedLaws.{Bytes, bytes-set}
 use Rattle.act.specs.Meaning.{Means}
+use Rattle.act.specs.ActLaws.{Makes, blank-makes, straight-makes, powers-makes, ruler-makes}
 use Rattle.act.specs.MeaningOnce.{Standing, means-stands}
+use Rattle.act.specs.RecoveringLaws.{recoveryLine, recoveryState, recovering-by}
 use Rattle.act.specs.StateLaws.{place-inside, mark-inside, run-inside, shift-inside, recover-planned, seal-planned, figures-planned}
 use Rattle.turns.specs.Sheets as sheets
 use Rattle.turns.specs.Sheets.{Sheet, start}
 use Rattle.one_sheet.specs.OneSheet.{one-sheet}
-use Rattle.one_sheet.specs.ParsedLaws.{nothing-empty, whole-size, whole-command}
+use Rattle.one_sheet.specs.ParsedLaws.{zero-one, nothing-empty, whole-size, whole-command}
 use Rattle.one_sheet.specs.SomeFigures.{figures-some}
 use Rattle.one_sheet.specs.SomeRecovery.{decides-some, marked-some, cleared-some}
-
-zero-one : _≡_ {A = ℕ} 0 1 → ⊥
-zero-one e = omega arith
 
 -- a good plan with a block and marks of its lengths, all bytes
 pub record Sound (s : State) : Type 0 where
@@ -93,23 +93,13 @@ cleared-ready : {s : State} (v : List ℕ) → Sound s → length v ≡ s .plan 
 cleared-ready {s} v k a b = block-ready v _ k a b (length-replicate (markBytes (layoutOf (s .plan))) 0) (zeros (markBytes (layoutOf (s .plan))))
 
 -- a plan that is made
-new-some : {s : State} (c : Command) (p : Plan) → Standing (fresh p) → Means c s (fresh p) [] → Some c s
-unfolding fresh
-new-some c p k m = record { state = fresh p; text = []; means = m; ready = fresh-ready p (k .good refl) }
+new-some : {s : State} {c : Command} {x : Made} → Makes c x → refusalOf s c ≡ Pass → Some c s
+new-some {s} {c} {x} k e = record { state = fresh (x .plan); text = []; means = k .means s _ refl; ready = fresh-ready (x .plan) (k .good s e) }
 
 -- the bits of the plan's places fit its mark bytes
 bits-fit : {s : State} → Sound s → s .plan .n * s .plan .t ≤ 8 * length (s .marks)
 unfolding markBytes layoutOf layout
 bits-fit k = omega (arith, k .marks-long)
-
-map-bytes : (v : List ℕ) → Bytes v → (l : List ℕ) → Bytes (map (at v) l)
-map-bytes v h [] i = omega arith
-map-bytes v h (c ∷ l) zero = h c
-map-bytes v h (c ∷ l) (suc i) = map-bytes v h l i
-
-length-map : (f : ℕ → ℕ) (l : List ℕ) → length (map f l) ≡ length l
-length-map f [] = refl
-length-map f (c ∷ l) = ap suc (length-map f l)
 
 block-places : {s : State} → Sound s → length (s .block) ≡ layoutOf (s .plan) .n * layoutOf (s .plan) .t
 unfolding layoutOf layout
@@ -119,66 +109,31 @@ places-block : (p : Plan) (v : List ℕ) → length v ≡ layoutOf p .n * layout
 unfolding layoutOf layout
 places-block p v e = e
 
+-- what recovery leaves is ready: the block that it found, or everything as it was
+recovered-ready : {s : State} → Sound s → (r : Recovery) (v : List ℕ) → length v ≡ s .plan .n * s .plan .t → Bytes v → Ready (recoveryState s r v)
+recovered-ready k recovery.Recovered v l w = cleared-ready v k l w
+recovered-ready k (recovery.Loose z) v l w = record { sound = λ _. k }
+recovered-ready k (recovery.Crossed z) v l w = record { sound = λ _. k }
+recovered-ready k (recovery.Refused x) v l w = record { sound = λ _. k }
+
 recover-some : {s : State} → Sound s → Some Recover s
 unfolding Means
 recover-some {s} k =
     let L = layoutOf (s .plan) in
     let d = decides-some L (good-valid (s .plan) (k .good)) (erasures-erased L (s .marks)) (s .block) (block-places k) (k .symbols) in
-    go (d .0) (d .1) (d .2) (d .3)
-  where
-    go : (r : Recovery) (v w : List ℕ) →
-        (Decides (layoutOf (s .plan)) (erasures (layoutOf (s .plan)) (s .marks)) (s .block) r v w
-        × ((length v ≡ layoutOf (s .plan) .n * layoutOf (s .plan) .t) × ((c : ℕ) → at v c < 256))) → Some Recover s
-    go recovery.Recovered v w d = record {
-      state = withBlock s v (replicate (markBytes (layoutOf (s .plan))) 0);
-      text = line recoveredWord (length (erasures (layoutOf (s .plan)) (s .marks)) ∷ []);
-      means = record {
-        answer = recovery.Recovered;
-        block = v;
-        list = w;
-        decides = d .0;
-        recovered = λ _. (refl, refl);
-        loose = λ z q. absurd (zero-one (cc));
-        crossed = λ z q. absurd (zero-one (cc));
-      };
-      ready = cleared-ready v k (places-block (s .plan) v (d .1 .0)) (d .1 .1);
+    record {
+      state = recoveryState s (d .0) (d .1);
+      text = recoveryLine s (d .0) (d .2);
+      means = recovering-by (d .3 .0) refl refl;
+      ready = recovered-ready k (d .0) (d .1) (places-block (s .plan) (d .1) (d .3 .1 .0)) (d .3 .1 .1);
     }
-    go (recovery.Loose z) v w d = record {
-      state = s;
-      text = line looseWord (z ∷ take z w);
-      means = record {
-        answer = recovery.Loose z;
-        block = v;
-        list = w;
-        decides = d .0;
-        recovered = λ q. absurd (zero-one (cc));
-        loose = λ y q. let e : z ≡ y = cc in (ap (λ x. line looseWord (x ∷ take x w)) e, refl);
-        crossed = λ y q. absurd (zero-one (cc));
-      };
-      ready = record { sound = λ _. k };
-    }
-    go (recovery.Crossed z) v w d = record {
-      state = s;
-      text = line crossedWord (z ∷ take z w);
-      means = record {
-        answer = recovery.Crossed z;
-        block = v;
-        list = w;
-        decides = d .0;
-        recovered = λ q. absurd (zero-one (cc));
-        loose = λ y q. absurd (zero-one (cc));
-        crossed = λ y q. let e : z ≡ y = cc in (ap (λ x. line crossedWord (x ∷ take x w)) e, refl);
-      };
-      ready = record { sound = λ _. k };
-    }
-    go (recovery.Refused x) v w d = absurd (d .0 .not-refused x refl)
 
 seal-some : {s : State} → Sound s → Some Seal s
 unfolding Means
 seal-some {s} k =
     let L = layoutOf (s .plan) in
     let ok = good-valid (s .plan) (k .good) in
-    let r = carried-some L ok (map (at (s .block)) (messages L)) (length-map (at (s .block)) (messages L)) (map-bytes (s .block) (k .symbols) (messages L)) in
+    let r = carried-some L ok (map (at (s .block)) (messages L)) (length-map (messages L) (at (s .block))) (map-bytes (s .block) (k .symbols) (messages L)) in
     record {
       state = withBlock s (r .0) (replicate (markBytes L) 0);
       text = line sealedWord (length (messages L) ∷ []);
@@ -219,7 +174,7 @@ symbolOf (Ruler n) = 0
 -- a command that is not refused has a meaning
 pub means-some : {s : State} → Ready s → (c : Command) → symbolOf c < 256 → refusalOf s c ≡ Pass → Some c s
 unfolding Means withPlan withShift
-means-some {s} k (NewPlan n t) b e = new-some (NewPlan n t) (blankOf n t .plan) (means-stands [] (ready-stands k) (NewPlan n t) e (refl, refl)) (refl, refl)
+means-some {s} k (NewPlan n t) b e = new-some (blank-makes n t) e
 means-some {s} k (SetShift j p) b e =
     let i = shift-inside s j p e in
     let d = k .sound (i .0) in
@@ -261,9 +216,9 @@ means-some {s} k Recover b e = recover-some (k .sound (recover-planned s e))
 means-some {s} k Seal b e = seal-some (k .sound (seal-planned s e))
 means-some {s} k (Show c) b e = record { state = s; text = line symbolWord (c ∷ at (s .block) c ∷ []); means = (refl, refl); ready = k }
 means-some {s} k Figures b e = figure-some (k .sound (figures-planned s e))
-means-some {s} k (Straight n t) b e = new-some (Straight n t) (straightOf n t .plan) (means-stands [] (ready-stands k) (Straight n t) e (refl, refl)) (refl, refl)
-means-some {s} k (Powers n t q) b e = new-some (Powers n t q) (powersOf n t q .plan) (means-stands [] (ready-stands k) (Powers n t q) e (refl, refl)) (refl, refl)
-means-some {s} k (Ruler n) b e = new-some (Ruler n) (rulerOf n .plan) (means-stands [] (ready-stands k) (Ruler n) e (refl, refl)) (refl, refl)
+means-some {s} k (Straight n t) b e = new-some (straight-makes n t) e
+means-some {s} k (Powers n t q) b e = new-some (powers-makes n t q) e
+means-some {s} k (Ruler n) b e = new-some (ruler-makes n) e
 
 -- the symbol that a command read from bytes gives is a byte
 record Small (c : Command) : Type 0 where

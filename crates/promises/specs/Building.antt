@@ -4,8 +4,8 @@
 use mathlib.Core.Path.{_≡_, refl, sym, _∙_}
 use mathlib.Core.Logic.{_≢_}
 use mathlib.Core.Bool.{true}
-use mathlib.Core.List.{List, [], map}
-use Prim.Native.Nat.{ℕ, _+_, _-_, _*_, _/_, _≤_, _<_}
+use mathlib.Core.List.{List, [], _∷_, map}
+use Prim.Native.Nat.{ℕ, zero, suc, _+_, _-_, _*_, _/_, _≤_, _<_}
 use native.Mathlib.Nat.{div-lt-iff-lt-mul}
 use native.Mathlib.Omega.{arith}
 use lib.ListN.{length, replicate}
@@ -44,7 +44,7 @@ use Rattle.math.specs.Padded.{padded}
 use Rattle.promises.specs.Promises.{Decides, Recovers, recoverLent, Encodes, Reads, messageLent}
 
 -- 0 is not 1
-zero-one : _≡_ {A = ℕ} 0 1 → ⊥
+pub zero-one : _≡_ {A = ℕ} 0 1 → ⊥
 zero-one e = omega arith
 
 -- a single thing, two things, none: no two of these at once
@@ -247,6 +247,12 @@ reads-refused p v d {x} stop = record {
   not-refused = λ q. absurd (not-both q stop);
   number = λ q. absurd (not-both q stop);
 }
+
+-- symbols of a block of bytes are bytes
+pub map-bytes : (v : List ℕ) → ((c : ℕ) → at v c < 256) → (l : List ℕ) (i : ℕ) → at (map (at v) l) i < 256
+map-bytes v h [] i = omega arith
+map-bytes v h (c ∷ l) zero = h c
+map-bytes v h (c ∷ l) (suc i) = map-bytes v h l i
 
 -- the symbols at the message places are what a codeword carries
 pub carries-own : {L : Layout} → Valid L → {v d : List ℕ} → Codeword L v → d ≡ map (at v) (messages L) → Carries L v d

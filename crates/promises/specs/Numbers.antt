@@ -1,7 +1,7 @@
 -- 01's numbers beside the outcomes that they stand for, and the joins between counts: what an answer's number says.
 -- Main results: decided-number, encoded-number, read-number, encode-always, message-count-is.
 use mathlib.Core.Path.{_≡_, refl, sym, _∙_, ap}
-use mathlib.Core.Logic.{_↔_, _≢_}
+use mathlib.Core.Logic.{_≢_}
 use mathlib.Core.List.{List, [], List·Memᴰ}
 use Prim.Native.Nat.{ℕ, _-_, _*_, _<_}
 use native.Mathlib.Omega.{arith}
@@ -11,8 +11,8 @@ use Rattle.plan.specs.Layout.{Layout, layout, messageCount, divisor}
 use Rattle.plan.specs.Plans.{layoutOf, planCheck}
 use Rattle.plan.specs.PlanLaws.{good-valid, good-bounds}
 use Rattle.plan.specs.declared.Plan.{Plan}
-use Rattle.code.specs.Codewords.{at, Codeword, Single}
-use Rattle.code.specs.Messages.{Message, Lists, Carries}
+use Rattle.code.specs.Codewords.{at}
+use Rattle.code.specs.Messages.{Message, Lists}
 use Rattle.code.specs.Theorems.{message-count, carried-once}
 use Rattle.code.specs.Laws.Carrying.{lists-unique}
 use Rattle.refusals.specs.Refusals.{numberOf}

@@ -5,12 +5,10 @@ use mathlib.Core.Path.{_≡_, refl, sym, _∙_}
 use mathlib.Core.Logic.{_≢_, ⊎-elim}
 use mathlib.Core.List.{List, []}
 use Prim.Native.Nat.{ℕ}
-use native.Mathlib.Omega.{arith}
 use Rattle.plan.specs.Layout.{Layout, Valid}
 use Rattle.plan.specs.Plans.{layoutOf}
 use Rattle.plan.specs.declared.Plan.{Plan}
 use Rattle.code.specs.Codewords.{Agrees, Single, TwoOrMore, None}
-use Rattle.code.specs.Marks.{erasures}
 use Rattle.code.specs.Messages.{Carries}
 use Rattle.code.specs.Theorems.{forest-or-cycle, forest-unique, two, carries-one}
 use Rattle.code.specs.Laws.Forest.{Erased}
@@ -18,7 +16,8 @@ use Rattle.code.specs.Laws.MarksLaws.{erasures-erased}
 use Rattle.calls.specs.Calls.{checkOf}
 use Rattle.refusals.specs.RefusalLaws.{stop-or-pass}
 use Rattle.refusals.specs.declared.Refusal.{Refusal}
-use Rattle.refusals.specs.declared.Check.the-variants.{Pass}
+use Rattle.refusals.specs.declared.Check.{Check}
+use Rattle.refusals.specs.declared.Check.the-variants.{Pass, Stop}
 use Rattle.promises.specs.declared.Recovery.{Recovery}
 use Rattle.promises.specs.declared.Recovery.the-variants.{Recovered, Crossed, Loose, Refused}
 use Rattle.promises.specs.declared.Encoding.{Encoding}
@@ -28,9 +27,6 @@ use Rattle.promises.specs.declared.Reading.the-variants as reading
 use Rattle.promises.specs.Promises.{Decides, Recovers, recoverLent, Encodes, Reads, messageLent}
 use Rattle.promises.specs.Building
 use Rattle.promises.specs.Theorems.{decides-same}
-
-zero-one : _≡_ {A = ℕ} 0 1 → ⊥
-zero-one e = omega arith
 
 -- ---- recover
 
@@ -76,6 +72,12 @@ recovers-once p v m w f g =
     (a .0 ∙ sym (b .0), a .1 ∙ sym (b .1), a .2 ∙ sym (b .2)))
     (stop-or-pass (checkOf p (recoverLent v m w) m))
 
+-- a call that stops has one outcome; so the one that passes settles it
+stop-once : (k : Check) {A : Type 0} {refused : Refusal → A} {b : List ℕ} {r s : A} {b' c' : List ℕ} → ((x : Refusal) → k ≡ Stop x → (r ≡ refused x) × (b' ≡ b)) →
+    ((x : Refusal) → k ≡ Stop x → (s ≡ refused x) × (c' ≡ b)) → (k ≡ Pass → (r ≡ s) × (b' ≡ c')) → (r ≡ s) × (b' ≡ c')
+stop-once Pass f g pass = pass refl
+stop-once (Stop x) f g pass = (f x refl .0 ∙ sym (g x refl .0), f x refl .1 ∙ sym (g x refl .1))
+
 -- ---- encode
 
 module _ (p : Plan) (d v : List ℕ) (pass : checkOf p (messageLent d v) [] ≡ Pass) where
@@ -84,9 +86,9 @@ module _ (p : Plan) (d v : List ℕ) (pass : checkOf p (messageLent d v) [] ≡ 
   encodes-not-refused {r} f x e =
       let none : None (λ y. Carries (layoutOf p) y d) = λ y a.
       let q = f .encoded-when pass .1 (Building.carries-single p (Building.pass-valid p (messageLent d v) [] pass) a) in
-      zero-one (cc) in
+      Building.zero-one (cc) in
       let q = f .unsealed-when pass .1 none in
-      zero-one (cc)
+      Building.zero-one (cc)
 
   encodes-pass : (r : Encoding) {s : Encoding} {v' x' : List ℕ} → Encodes p d v r v' → Encodes p d v s x' → (r ≡ s) × (v' ≡ x')
   encodes-pass encoding.Encoded f g =
@@ -100,14 +102,7 @@ module _ (p : Plan) (d v : List ℕ) (pass : checkOf p (messageLent d v) [] ≡ 
 
 -- the answer and the block
 pub encodes-once : (p : Plan) (d v : List ℕ) {r s : Encoding} {v' x' : List ℕ} → Encodes p d v r v' → Encodes p d v s x' → (r ≡ s) × (v' ≡ x')
-encodes-once p d v {r} f g =
-    ⊎-elim
-    (λ pass. encodes-pass p d v pass r f g)
-    (λ stop.
-    let a = f .refused (stop .0) (stop .1) in
-    let b = g .refused (stop .0) (stop .1) in
-    (a .0 ∙ sym (b .0), a .1 ∙ sym (b .1)))
-    (stop-or-pass (checkOf p (messageLent d v) []))
+encodes-once p d v {r} f g = stop-once (checkOf p (messageLent d v) []) (f .refused) (g .refused) (λ pass. encodes-pass p d v pass r f g)
 
 -- ---- message_of
 
@@ -115,8 +110,8 @@ module _ (p : Plan) (v d : List ℕ) (pass : checkOf p (messageLent d v) [] ≡ 
   -- a block is a codeword or none
   pub reads-not-refused : {r : Reading} {d' : List ℕ} → Reads p v d r d' → (x : Refusal) → r ≢ reading.Refused x
   reads-not-refused {r} f x e =
-      let q = f .crossed-when pass .1 (λ h. let k = f .read-when pass .1 h in zero-one (cc)) in
-      zero-one (cc)
+      let q = f .crossed-when pass .1 (λ h. let k = f .read-when pass .1 h in Building.zero-one (cc)) in
+      Building.zero-one (cc)
 
   reads-pass : (r : Reading) {s : Reading} {d' e' : List ℕ} → Reads p v d r d' → Reads p v d s e' → (r ≡ s) × (d' ≡ e')
   reads-pass reading.Read f g =
@@ -131,11 +126,4 @@ module _ (p : Plan) (v d : List ℕ) (pass : checkOf p (messageLent d v) [] ≡ 
 
 -- the answer and the message
 pub reads-once : (p : Plan) (v d : List ℕ) {r s : Reading} {d' e' : List ℕ} → Reads p v d r d' → Reads p v d s e' → (r ≡ s) × (d' ≡ e')
-reads-once p v d {r} f g =
-    ⊎-elim
-    (λ pass. reads-pass p v d pass r f g)
-    (λ stop.
-    let a = f .refused (stop .0) (stop .1) in
-    let b = g .refused (stop .0) (stop .1) in
-    (a .0 ∙ sym (b .0), a .1 ∙ sym (b .1)))
-    (stop-or-pass (checkOf p (messageLent d v) []))
+reads-once p v d {r} f g = stop-once (checkOf p (messageLent d v) []) (f .refused) (g .refused) (λ pass. reads-pass p v d pass r f g)

@@ -4,7 +4,7 @@ use mathlib.Core.Path.{_≡_, refl, sym, _∙_, ap, subst, fun-ext}
 use mathlib.Core.List.{List, [], _∷_, _++_}
 use Prim.Native.Nat.{ℕ, zero, suc}
 use native.Mathlib.Omega.{arith}
-use lib.ListN.{length, getD, set, take, drop, replicate}
+use lib.ListN.{length, getD, set, drop, replicate}
 use Rattle.math.specs.Members.{isIn, from, upTo, keep}
 use Rattle.math.specs.Padded.{padded}
 use Rattle.bounds.specs.Bounds.{sizeFits}
@@ -17,7 +17,7 @@ use Rattle.code.specs.Codewords.{at, bitOf}
 use Rattle.code.specs.Marks.{mark, markBytes, erasures}
 use Rattle.code.specs.Laws.MarksLaws.{erasures-erased}
 use Rattle.promises.specs.Promises.{Decides}
-use Rattle.promises.specs.Building.{decides-recovered, decides-loose, decides-crossed, recovered-not-loose, recovered-not-crossed, loose-not-crossed}
+use Rattle.promises.specs.Building.{decides-recovered, decides-loose, decides-crossed}
 use Rattle.promises.specs.declared.Recovery.{Recovery}
 use Rattle.promises.specs.declared.Recovery.the-variants as recovery
 use Rattle.commands.specs.Commands.{sizeOf, commandOf, parsed}
@@ -28,7 +28,8 @@ use Rattle.bits.specs.Bits.{Marked}
 use Rattle.state.specs.State.{State, fresh, withPlan, withBlock}
 use Rattle.state.specs.Refusing.{early, refusalOf}
 use Rattle.bits.specs.MarkedLaws.{Bytes, marked-set, marked-clear}
-use Rattle.act.specs.Meaning.{Recovering, Means}
+use Rattle.act.specs.Meaning.{Means}
+use Rattle.act.specs.RecoveringLaws.{recovering-by}
 use Rattle.turns.specs.Sheets as sheets
 use Rattle.turns.specs.Sheets.{Sheet, start}
 use Rattle.one_sheet.specs.OneSheet.{one-sheet}
@@ -36,45 +37,6 @@ use Rattle.worked_examples.specs.Examples.{job, sixMarks, fiveMarks, Specimens}
 use Rattle.worked_examples.specs.ProofTests.{every, bytes-by-test}
 use Rattle.worked_examples.specs.Proofs.{job-valid, specimens}
 use Rattle.worked_sheet.specs.Table.{ascii, sampleJob, sampleSheet, SpecimenTable}
-
--- ---- what recovery writes, by its answer
-
-module _ {s : State} {v w : List ℕ} where
-  on-recovered : Decides (layoutOf (s .plan)) (erasures (layoutOf (s .plan)) (s .marks)) (s .block) recovery.Recovered v w →
-      Recovering s (withBlock s v (replicate (markBytes (layoutOf (s .plan))) 0)) (line recoveredWord (length (erasures (layoutOf (s .plan)) (s .marks)) ∷ []))
-  on-recovered d = record {
-    answer = recovery.Recovered;
-    block = v;
-    list = w;
-    decides = d;
-    recovered = λ _. (refl, refl);
-    loose = λ z q. absurd (recovered-not-loose q);
-    crossed = λ z q. absurd (recovered-not-crossed q);
-  }
-
-  on-loose : {z : ℕ} → Decides (layoutOf (s .plan)) (erasures (layoutOf (s .plan)) (s .marks)) (s .block) (recovery.Loose z) v w →
-      Recovering s s (line looseWord (z ∷ take z w))
-  on-loose {z} d = record {
-    answer = recovery.Loose z;
-    block = v;
-    list = w;
-    decides = d;
-    recovered = λ q. absurd (recovered-not-loose (sym q));
-    loose = λ y q. let e : z ≡ y = cc in (ap (λ x. line looseWord (x ∷ take x w)) e, refl);
-    crossed = λ y q. absurd (loose-not-crossed q);
-  }
-
-  on-crossed : {z : ℕ} → Decides (layoutOf (s .plan)) (erasures (layoutOf (s .plan)) (s .marks)) (s .block) (recovery.Crossed z) v w →
-      Recovering s s (line crossedWord (z ∷ take z w))
-  on-crossed {z} d = record {
-    answer = recovery.Crossed z;
-    block = v;
-    list = w;
-    decides = d;
-    recovered = λ q. absurd (recovered-not-crossed (sym q));
-    loose = λ y q. absurd (loose-not-crossed (sym q));
-    crossed = λ y q. let e : z ≡ y = cc in (ap (λ x. line crossedWord (x ∷ take x w)) e, refl);
-  }
 
 -- ---- the job's plan and its layout
 
@@ -160,7 +122,7 @@ module _ (results : Specimens) where
 
   loose-means : Means Recover (held (replicate 21 0) sixMarks) (held (replicate 21 0) sixMarks) (ascii "loose 6 0 7 16 2 10 17\n")
   unfolding Means withBlock fresh line looseWord fields decimal widthFrom padded ascii
-  loose-means = on-loose (by-plan sixMarks decided)
+  loose-means = recovering-by (by-plan sixMarks decided) refl refl
     where
       decided : Decides job (erasures job sixMarks) (replicate 21 0) (recovery.Loose 6) (replicate 21 0) (padded 14 (0 ∷ 7 ∷ 16 ∷ 2 ∷ 10 ∷ 17 ∷ []))
       decided = unfold layout in decides-loose job-valid (erasures-erased job sixMarks) (results .cycle)
@@ -169,8 +131,8 @@ module _ (results : Specimens) where
   recovered-means : Means Recover (held (set (replicate 21 0) 0 5) fiveMarks) (held whole (bits 0 0 0)) (ascii "recovered 5\n")
   unfolding Means withBlock fresh plan line recoveredWord fields decimal widthFrom markBytes layoutOf layout ascii
   recovered-means =
-      subst (λ k. Recovering (held (set (replicate 21 0) 0 5) fiveMarks) (held whole (bits 0 0 0)) (line recoveredWord (k ∷ [])))
-      (ap (λ L. length (erasures L fiveMarks)) same-layout ∙ results .five-count) (on-recovered (by-plan fiveMarks decided))
+      let count = ap (λ L. length (erasures L fiveMarks)) same-layout ∙ results .five-count in
+      recovering-by (by-plan fiveMarks decided) (ap (λ k. line recoveredWord (k ∷ [])) (sym count)) refl
     where
       decided : Decides job (erasures job fiveMarks) (set (replicate 21 0) 0 5) recovery.Recovered whole (replicate 14 0)
       decided = unfold layout in decides-recovered (results .recovered .has) (results .recovered .only-one) refl
@@ -181,7 +143,7 @@ module _ (results : Specimens) where
 
   crossed-means : Means Recover (held (set whole 0 6) (bits 0 0 0)) (held (set whole 0 6) (bits 0 0 0)) (ascii "crossed 1 0\n")
   unfolding Means withBlock fresh line crossedWord fields decimal widthFrom padded ascii
-  crossed-means = on-crossed (by-plan (bits 0 0 0) decided)
+  crossed-means = recovering-by (by-plan (bits 0 0 0) decided) refl refl
     where
       decided : Decides job (erasures job (bits 0 0 0)) (set whole 0 6) (recovery.Crossed 1) (set whole 0 6) (padded 14 (0 ∷ []))
       decided = unfold layout in decides-crossed job-valid (erasures-erased job (bits 0 0 0)) {l = 0 ∷ []} (rw none-marked (results .crossed-rows)) refl
