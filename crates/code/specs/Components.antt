@@ -1,5 +1,4 @@
 -- Connected rows and components (01: joined rows, joined groups), and the component that shows an inconsistency (01: crossed).
-use mathlib.Core.Path.{_≡_}
 use mathlib.Core.Logic.{_↔_, _≢_}
 use mathlib.Core.List.{List}
 use Prim.Native.Nat.{ℕ, _*_, _≤_, _<_}

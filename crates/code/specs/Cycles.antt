@@ -1,7 +1,7 @@
 -- Cycles (01: rings) and the places that are the lowest of one.
 use mathlib.Core.Path.{_≡_}
 use mathlib.Core.List.{List}
-use Prim.Native.Nat.{ℕ, suc, _+_, _-_, _*_, _≤_, _<_}
+use Prim.Native.Nat.{ℕ, _+_, _-_, _*_, _≤_, _<_}
 use lib.ListN.{length}
 use Rattle.math.specs.Members.{_∈_}
 use Rattle.plan.specs.Layout.{Layout, top, bottom}

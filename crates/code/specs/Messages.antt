@@ -3,7 +3,6 @@ use mathlib.Core.Path.{_≡_}
 use mathlib.Core.Logic.{_↔_}
 use mathlib.Core.List.{List, map}
 use Prim.Native.Nat.{ℕ}
-use lib.ListN.{length}
 use Rattle.math.specs.Members.{_∈_, Rising}
 use Rattle.plan.specs.Layout.{Layout}
 use Rattle.code.specs.Places.{places}

@@ -2,13 +2,13 @@
 -- L is any valid layout: every plan that is not refused gives one (PlanLaws.good-valid of the crate plan). E are erasures: a rising list of places.
 use mathlib.Core.Path.{_≡_}
 use mathlib.Core.Logic.{_↔_, _≢_, _⊎_}
-use mathlib.Core.List.{List, [], _∷_, List·Memᴰ, map}
-use Prim.Native.Nat.{ℕ, _+_, _-_, _*_, _/_, _%_, _≤_, _<_}
-use lib.ListN.{length, getD, replicate}
-use Rattle.math.specs.Members.{_∈_, Rising, Distinct, without}
+use mathlib.Core.List.{List, [], _∷_, List·Memᴰ}
+use Prim.Native.Nat.{ℕ, _-_, _*_, _/_, _≤_, _<_}
+use lib.ListN.{length, replicate}
+use Rattle.math.specs.Members.{_∈_, Distinct, without}
 use Rattle.math.specs.Sums.{xorOver, only}
 use Rattle.plan.specs.Layout.{Layout, Valid, placeOf, top, bottom, divisor}
-use Rattle.code.specs.Places.{places, Meets, matrix, meets}
+use Rattle.code.specs.Places.{places, matrix, meets}
 use Rattle.code.specs.Codewords.{at, syndrome, Codeword, product, Agrees, Single, TwoOrMore, None}
 use Rattle.code.specs.Checks.{Satisfies, Fills, update, rowChecks}
 use Rattle.code.specs.Cycles.{Cycle, Lowest}

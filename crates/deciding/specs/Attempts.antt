@@ -31,6 +31,7 @@ use Rattle.cycle.specs.Shows.{Room}
 use Rattle.tables.specs.Bounds.{tally-some, tally-none}
 use Rattle.tables.specs.StuckLaws.{length-onRow-le, stuck-none}
 use Rattle.peel.specs.Peels.{Peelable, Peeled, Peels}
+use Rattle.settling.specs.Starts.{Startable}
 use Rattle.settling.specs.Fill.{filled, Fillable, filled-long, filled-out, filled-at, cleanOf, clean-zero, zero-clean}
 use Rattle.calls.specs.Calls.{checkOf}
 use Rattle.calls.specs.CallsLaws.{pass-good, pass-spare}
@@ -165,14 +166,17 @@ begins {n} {t} {shifts} {marks = marks} byte s p = record {
 
 module _ {n t : ℕ} {shifts block marks witness sum tally place value tally₀ : List ℕ} (g : Given n t shifts block marks witness)
     (b : Tables n t shifts block sum tally₀ place value) (s : Begun n t shifts block marks sum tally) where
-  pub attempt-peels : Peelable n t shifts sum tally witness place value
-  attempt-peels = record {
-    good = g .marked .good;
-    pictured = record { E = _; u = _; picture = s .picture };
-    queue-long = g .witness-long;
-    place-long = b .place-long;
-    value-long = b .value-long;
-  }
+  pub attempt-peels : Peelable n t shifts sum tally witness place value × Startable n t shifts marks tally witness place
+  attempt-peels = (
+    record {
+      good = g .marked .good;
+      pictured = record { E = _; u = _; picture = s .picture };
+      queue-long = g .witness-long;
+      place-long = b .place-long;
+      value-long = b .value-long;
+    },
+    record { lent = g .marked; counted = s .picture .counted; queue-long = g .witness-long; list-long = b .place-long },
+  )
 
   pub attempt-tried : {sum' tally' place' value' : List ℕ} {k : ℕ} → Peels (layout n t shifts) sum tally sum' tally' place' value' k
       → Tried n t shifts block marks sum' tally' place' value' k

@@ -7,7 +7,7 @@ ghost use Rattle.settling.specs.Fill.{cleanOf};
 ghost use Rattle.promises.specs.Promises.{Decides};
 ghost use Rattle.deciding.specs.Attempts.{Given, Cut, Tables, Tried};
 use explaining::explain;
-use peel::peel;
+use peel::peel_marked;
 use plan::Place;
 use promises::Recovery;
 use settling::fill::clean;
@@ -65,10 +65,11 @@ fn attempt(
     ensures { λ r. ⌜ Decides (layout n t (now (shifts .entry))) (erasures (layout n t (now (shifts .entry))) (now (marks .entry))) (now (block .entry)) r (now (block .exit)) (now (witness .exit)) ⌝ }
 {
     note_marks(n, t, shifts, marks, Place(0), &mut tally[..]);
-    let k = peel(
+    let k = peel_marked(
         n,
         t,
         shifts,
+        marks,
         &mut sum[..],
         &mut tally[..],
         &mut witness[..],

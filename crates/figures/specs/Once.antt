@@ -1,6 +1,6 @@
 -- The answer of `figures` is fixed by the plan.
 -- Main result: figures-once.
-use mathlib.Core.Path.{_≡_, refl, sym, _∙_, ap}
+use mathlib.Core.Path.{_≡_, sym, _∙_, ap}
 use mathlib.Core.Logic.{⊎-elim}
 use Prim.Native.Nat.{ℕ}
 use Rattle.refusals.specs.RefusalLaws.{stop-or-pass}

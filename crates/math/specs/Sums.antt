@@ -1,5 +1,4 @@
 -- Sums over a list of numbers. Definitions only; their laws are in SumsLaws.
-use mathlib.Core.Path.{_≡_}
 use mathlib.Core.Bool.{Bool, true, false}
 use mathlib.Core.List.{List, [], _∷_}
 use Prim.Native.Nat.{ℕ, _+_}

@@ -14,7 +14,7 @@ use Rattle.plan.specs.GoodPlan.{GoodPlan}
 use Rattle.code.specs.Checks.{update}
 use Rattle.tables.specs.Picture.{counts, Picture, Pictured, Settles, Stuck}
 use Rattle.tables.specs.Bounds.{tally-counts}
-use Rattle.settling.specs.Queue.{Queued, Waits, Enters, Lowers, room, full, entered, passed, taken, emptied}
+use Rattle.settling.specs.Queue.{Below, Queued, Waits, Enters, Lowers, room, full, entered, passed, taken, emptied}
 use Rattle.settling.specs.Settling.{settles-none, settles-more}
 use Rattle.settling.specs.Takes.{One, Takes}
 
@@ -29,7 +29,7 @@ pub record Reached (L : Layout) (E : List ℕ) (u : ℕ → ℕ) (sum tally plac
 pub record Ready (n t : ℕ) (shifts sum tally queue place value : List ℕ) (head tail count : ℕ) : Type 0 where
   pub good : GoodPlan n t shifts
   pub pictured : Pictured (layout n t shifts) sum tally
-  pub queued : Queued tally queue (2 * t) head tail
+  pub queued : Queued tally queue (Below (2 * t)) head tail
   pub counted : count ≤ head
   pub queue-long : length queue ≡ 2 * t
   pub place-long : length place ≡ 2 * t
@@ -45,13 +45,13 @@ pub record Steps (n t : ℕ) (shifts sum tally queue place value : List ℕ) (he
 module _ {n t : ℕ} {shifts sum tally queue place value : List ℕ} {head tail count : ℕ}
     (d : Ready n t shifts sum tally queue place value head tail count) (h : head < tail) where
   pub head-row : getD queue head 0 < 2 * t
-  head-row = d .queued .entries .below head h
+  head-row = d .queued .entries .looked head h
 
   pub head-long : head < length queue
-  head-long = omega (arith, full (d .queued), d .queue-long)
+  head-long = omega (arith, full (λ r l. l) (d .queued), d .queue-long)
 
   pub count-lt : count < 2 * t
-  count-lt = omega (arith, d .counted, full (d .queued))
+  count-lt = omega (arith, d .counted, full (λ r l. l) (d .queued))
 
   pub count-long : (count < length place) × (count < length value)
   count-long = (omega (arith, count-lt, d .place-long), omega (arith, count-lt, d .value-long))
@@ -82,12 +82,12 @@ module _ {n t : ℕ} {shifts sum tally queue place value : List ℕ} {head tail 
   head-one e = record { good = d .good; pictured = d .pictured; row = rw at-head (head-row d h); left-one = e }
 
   module _ {sum' tally' : List ℕ} {c x b : ℕ} (k : Takes (layout n t shifts) sum tally sum' tally' r c x b) where
-    step-waits : Waits tally' queue (2 * t) (head + 1) tail b
+    step-waits : Waits tally' queue (Below (2 * t)) (head + 1) tail b
     unfolding layout
     step-waits = taken (d .queued) h (k .inside) (subst (λ q. Lowers tally tally' q b) at-head (k .lowers))
 
     step-room : counts tally' b ≡ 1 → tail < length queue
-    step-room e = omega (arith, room step-waits e, d .queue-long)
+    step-room e = omega (arith, room (λ r l. l) step-waits e, d .queue-long)
 
     pub rest-room : {rest : ℕ} → rest ≡ counts tally' b → rest ≡ 1 → tail < length queue
     rest-room e one = step-room (sym e ∙ one)
@@ -153,15 +153,16 @@ pub peelable-seed : {n t : ℕ} {shifts sum tally queue place value : List ℕ} 
 unfolding layout
 peelable-seed d = (d .good .t-max, d .pictured .picture .counted .long, d .queue-long)
 
-pub peelable-ready : {n t : ℕ} {shifts sum tally queue place value queue' : List ℕ} {tail : ℕ} → Peelable n t shifts sum tally queue place value
-    → Queued tally queue' (2 * t) 0 tail → length queue' ≡ length queue → Ready n t shifts sum tally queue' place value 0 tail 0
-peelable-ready d q l = record {
+pub peelable-ready : {n t : ℕ} {shifts sum tally queue place value queue' place' : List ℕ} {tail : ℕ} → Peelable n t shifts sum tally queue place value
+    → Queued tally queue' (Below (2 * t)) 0 tail → length queue' ≡ length queue → length place' ≡ length place
+    → Ready n t shifts sum tally queue' place' value 0 tail 0
+peelable-ready d q l k = record {
   good = d .good;
   pictured = d .pictured;
   queued = q;
   counted = omega arith;
   queue-long = l ∙ d .queue-long;
-  place-long = d .place-long;
+  place-long = k ∙ d .place-long;
   value-long = d .value-long;
 }
 
@@ -190,7 +191,7 @@ ready-long d p =
 pub peeling-less : {n t : ℕ} {shifts sum₀ tally₀ sum tally queue place value : List ℕ} {head tail count : ℕ}
     → Peeling n t shifts sum₀ tally₀ sum tally queue place value head tail count → head < tail
     → (head < 2 * maxT) × (2 * t - (head + 1) < 2 * t - head)
-peeling-less p h = (omega (arith, full (p .ready .queued), p .ready .good .t-max), omega (arith, full (p .ready .queued)))
+peeling-less p h = (omega (arith, full (λ r l. l) (p .ready .queued), p .ready .good .t-max), omega (arith, full (λ r l. l) (p .ready .queued)))
 
 pub peeling-step : {n t : ℕ} {shifts sum₀ tally₀ sum tally queue place value : List ℕ} {head tail count : ℕ}
     {sum' tally' queue' place' value' : List ℕ} {tail' count' : ℕ}
@@ -204,7 +205,7 @@ pub peeling-end : {n t : ℕ} {shifts sum₀ tally₀ sum tally queue place valu
     → Peels (layout n t shifts) sum₀ tally₀ sum tally place value count
 unfolding layout Stuck
 peeling-end p h = record {
-  few = omega (arith, p .ready .counted, p .ready .queued .order, full (p .ready .queued));
+  few = omega (arith, p .ready .counted, p .ready .queued .order, full (λ r l. l) (p .ready .queued));
   place-long = p .ready .place-long;
   value-long = p .ready .value-long;
   peeled = λ E u q.

@@ -3,11 +3,13 @@
 ghost use mathlib.Core.Path.{_≡_};
 ghost use Prim.Native.Nat.{_*_, _<_};
 ghost use Rattle.plan.specs.Layout.{layout};
+ghost use Rattle.settling.specs.Starts.{Startable};
 ghost use Rattle.peel.specs.Peels.{Ready, Steps, Peelable, Peels};
 use settling::queue::enter;
 use settling::queue::enter_stored;
 use settling::queue::seed;
 use settling::settle::settle;
+use settling::starts::seed_marked;
 use tables::lists::put_place;
 use tables::lists::row_at;
 use tables::rows::TALLY_UNIT;
@@ -166,6 +168,48 @@ fn drain_stored(
     count
 }
 
+// The turns from the rows at the front of the queue on; gives the number of places settled.
+fn drain(
+    n: usize,
+    t: usize,
+    shifts: &[u16],
+    sum: &mut [u8],
+    tally: &mut [u16],
+    queue: &mut [u16],
+    place: &mut [u16],
+    value: &mut [u8],
+    seeds: usize,
+) -> usize
+    requires { ⌜ Ready n t (now shifts) (now sum) (now tally) (now queue) (now place) (now value) 0 seeds 0 ⌝ }
+    ensures { λ r. ⌜ Peels (layout n t (now (shifts .entry))) (now (sum .entry)) (now (tally .entry)) (now (sum .exit)) (now (tally .exit)) (now (place .exit)) (now (value .exit)) r ⌝ }
+{
+    // Few rows to start from: the erasures lie in chains.
+    if seeds < t / 8 {
+        return drain_chains(
+            n,
+            t,
+            shifts,
+            &mut sum[..],
+            &mut tally[..],
+            &mut queue[..],
+            &mut place[..],
+            &mut value[..],
+            seeds,
+        );
+    }
+    drain_stored(
+        n,
+        t,
+        shifts,
+        &mut sum[..],
+        &mut tally[..],
+        &mut queue[..],
+        &mut place[..],
+        &mut value[..],
+        seeds,
+    )
+}
+
 // Settles what it can; gives the number of places settled, which stand with their values at the front of the two lists.
 pub fn peel(
     n: usize,
@@ -180,22 +224,8 @@ pub fn peel(
     requires { ⌜ Peelable n t (now shifts) (now sum) (now tally) (now queue) (now place) (now value) ⌝ }
     ensures { λ r. ⌜ Peels (layout n t (now (shifts .entry))) (now (sum .entry)) (now (tally .entry)) (now (sum .exit)) (now (tally .exit)) (now (place .exit)) (now (value .exit)) r ⌝ }
 {
-    let tail = seed(t, &tally[..], &mut queue[..]);
-    // Few rows to start from: the erasures lie in chains.
-    if tail < t / 8 {
-        return drain_chains(
-            n,
-            t,
-            shifts,
-            &mut sum[..],
-            &mut tally[..],
-            &mut queue[..],
-            &mut place[..],
-            &mut value[..],
-            tail,
-        );
-    }
-    drain_stored(
+    let seeds = seed(t, &tally[..], &mut queue[..]);
+    drain(
         n,
         t,
         shifts,
@@ -204,6 +234,43 @@ pub fn peel(
         &mut queue[..],
         &mut place[..],
         &mut value[..],
-        tail,
+        seeds,
+    )
+}
+
+// The same where the table tallies the marked places: the rows to start from are found by the marks where these are few.
+pub fn peel_marked(
+    n: usize,
+    t: usize,
+    shifts: &[u16],
+    marks: &[u8],
+    sum: &mut [u8],
+    tally: &mut [u16],
+    queue: &mut [u16],
+    place: &mut [u16],
+    value: &mut [u8],
+) -> usize
+    requires { ⌜ Peelable n t (now shifts) (now sum) (now tally) (now queue) (now place) (now value) × Startable n t (now shifts) (now marks) (now tally) (now queue) (now place) ⌝ }
+    ensures { λ r. ⌜ Peels (layout n t (now (shifts .entry))) (now (sum .entry)) (now (tally .entry)) (now (sum .exit)) (now (tally .exit)) (now (place .exit)) (now (value .exit)) r ⌝ }
+{
+    let seeds = seed_marked(
+        n,
+        t,
+        shifts,
+        marks,
+        &tally[..],
+        &mut queue[..],
+        &mut place[..],
+    );
+    drain(
+        n,
+        t,
+        shifts,
+        &mut sum[..],
+        &mut tally[..],
+        &mut queue[..],
+        &mut place[..],
+        &mut value[..],
+        seeds,
     )
 }

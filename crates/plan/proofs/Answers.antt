@@ -9,7 +9,7 @@ use lib.ListN.{length, take, replicate}
 use borrow.Author.Tests.{le-leb, lt-leb, eq-eqb, eqb-true, ne-eqb, not-true, not-false}
 use Rattle.math.specs.Tests.{no-right}
 use Rattle.math.specs.Members.{upTo}
-use Rattle.refusals.specs.Refusals.{unless, _then_}
+use Rattle.refusals.specs.Refusals.{unless}
 use Rattle.refusals.specs.RefusalLaws.{unless-pass, then-pass}
 use Rattle.refusals.specs.declared.Refusal.{Refusal}
 use Rattle.refusals.specs.declared.Refusal.the-variants.{Size, Shift, Family}
@@ -20,7 +20,7 @@ use Rattle.families.specs.Families.{powersNeed}
 use Rattle.ruler.specs.Ruler.{rulerT, rulerShifts}
 use Rattle.plan.specs.Plans as plans
 use Rattle.plan.specs.declared.Made.{Made}
-use Rattle.plan.specs.Plans.{noPlan, planCheck, checkBy, shiftsCheck, withShift, made, refused, answered, planOf, blankOf, straightOf, powersOf, rulerOf}
+use Rattle.plan.specs.Plans.{noPlan, planCheck, checkBy, shiftsCheck, made, refused, answered, planOf, blankOf, straightOf, powersOf, rulerOf}
 use Rattle.plan.specs.declared.Plan.{Plan}
 
 -- a test that the code negates

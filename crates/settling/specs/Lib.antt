@@ -3,3 +3,4 @@ pub mod Queue
 pub mod Settling
 pub mod Takes
 pub mod Fill
+pub mod Starts

@@ -1,7 +1,7 @@
--- The queue of rows with one erasure left. Rows that entered are below `rows`, none twice, and none has more than one erasure left;
--- every row with exactly one left stands at or after the head (Queued), or all but one row s that may enter next (Waits).
--- Main results: entered (a row enters or not), room (there is room for it), sweep-more and sweep-none (the scan of all rows), passed and
--- taken (the head moves on).
+-- The queue of rows with one erasure left. Of the rows looked at, Q, none entered twice, and none that entered has more than one erasure left;
+-- every one with exactly one left stands at or after the head (Queued), or all but one row s that may enter next (Waits).
+-- Main results: entered (a row enters or not), room (there is room for it), looks (a row more is looked at), widened (rows that need not be), sweep-more and
+-- sweep-none (the scan of all rows), passed and taken (the head moves on).
 use mathlib.Core.Path.{_≡_, refl, sym, _∙_, ap, subst}
 use mathlib.Core.Logic.{_≢_, by-cases}
 use mathlib.Core.Bool.{true}
@@ -27,21 +27,25 @@ use Rattle.settling.specs.Fill.{one, no-ones-at}
 abbrev pub Standing : List ℕ → ℕ → ℕ → ℕ → Type 0
 Standing queue head tail r = (i : ℕ) × (head ≤ i) × (i < tail) × (getD queue i 0 ≡ r)
 
-pub record Entries (tally queue : List ℕ) (rows tail : ℕ) : Type 0 where
-  pub below : (i : ℕ) → i < tail → getD queue i 0 < rows
+-- the rows below a number
+abbrev pub Below : ℕ → ℕ → Type 0
+Below rows r = r < rows
+
+pub record Entries (tally queue : List ℕ) (Q : ℕ → Type 0) (tail : ℕ) : Type 0 where
+  pub looked : (i : ℕ) → i < tail → Q (getD queue i 0)
   pub apart : (i j : ℕ) → i < tail → j < tail → getD queue i 0 ≡ getD queue j 0 → i ≡ j
   pub low : (i : ℕ) → i < tail → counts tally (getD queue i 0) ≤ 1
 
-pub record Queued (tally queue : List ℕ) (rows head tail : ℕ) : Type 0 where
+pub record Queued (tally queue : List ℕ) (Q : ℕ → Type 0) (head tail : ℕ) : Type 0 where
   pub order : head ≤ tail
-  pub entries : Entries tally queue rows tail
-  pub waiting : (r : ℕ) → r < rows → counts tally r ≡ 1 → Standing queue head tail r
+  pub entries : Entries tally queue Q tail
+  pub waiting : (r : ℕ) → Q r → counts tally r ≡ 1 → Standing queue head tail r
 
-pub record Waits (tally queue : List ℕ) (rows head tail s : ℕ) : Type 0 where
+pub record Waits (tally queue : List ℕ) (Q : ℕ → Type 0) (head tail s : ℕ) : Type 0 where
   pub order : head ≤ tail
-  pub entries : Entries tally queue rows tail
-  pub waiting : (r : ℕ) → r < rows → r ≢ s → counts tally r ≡ 1 → Standing queue head tail r
-  pub inside : s < rows
+  pub entries : Entries tally queue Q tail
+  pub waiting : (r : ℕ) → Q r → r ≢ s → counts tally r ≡ 1 → Standing queue head tail r
+  pub inside : Q s
   pub fresh : (i : ℕ) → i < tail → getD queue i 0 ≡ s → counts tally s ≢ 1
 
 -- row s, which has `rest` tally, enters at the tail if that is exactly one; what stands past the tail is free
@@ -60,52 +64,66 @@ stored queue tail s rest = record {
   stays = λ n. rw (ne-eqb rest 1 n) ((λ i h. getD-set-other queue tail i s 0 (λ e. omega arith)), omega arith);
 }
 
-pub queued-none : (tally queue : List ℕ) → Queued tally queue 0 0 0
-queued-none tally queue = record {
+-- no row is looked at yet
+pub queued-none : {tally queue : List ℕ} {Q : ℕ → Type 0} → ((r : ℕ) → ¬ (Q r)) → Queued tally queue Q 0 0
+queued-none none = record {
   order = omega arith;
-  entries = record { below = λ i h. absurd (omega arith); apart = λ i j h k e. absurd (omega arith); low = λ i h. absurd (omega arith) };
-  waiting = λ r h e. absurd (omega arith);
+  entries = record { looked = λ i h. absurd (omega arith); apart = λ i j h k e. absurd (omega arith); low = λ i h. absurd (omega arith) };
+  waiting = λ r h e. absurd (none r h);
 }
 
-pub full : {tally queue : List ℕ} {rows head tail : ℕ} → Queued tally queue rows head tail → tail ≤ rows
-full {queue} {rows} {tail} q =
-    omega (
-      arith,
-      length-upTo rows,
-      injection-length tail (λ i. getD queue i 0) (upTo rows) (λ i h. ∈-upTo (q .entries .below i h)) (q .entries .apart),
-    )
+-- the queue is no longer than there are rows
+module _ {rows : ℕ} {Q : ℕ → Type 0} (few : (r : ℕ) → Q r → r < rows) {tally queue : List ℕ} {head tail : ℕ} where
+  pub full : Queued tally queue Q head tail → tail ≤ rows
+  full q =
+      omega (
+        arith,
+        length-upTo rows,
+        injection-length tail (λ i. getD queue i 0) (upTo rows) (λ i h. ∈-upTo (few _ (q .entries .looked i h))) (q .entries .apart),
+      )
 
-pub room : {tally queue : List ℕ} {rows head tail s : ℕ} → Waits tally queue rows head tail s → counts tally s ≡ 1 → tail < rows
-room {queue} {rows} {tail} {s} q e =
-    omega (
-      arith,
-      length-upTo rows,
-      length-without-lt (∈-upTo (q .inside)),
-      injection-length tail (λ i. getD queue i 0) (without s (upTo rows))
-          (λ i h. ∈-without (∈-upTo (q .entries .below i h)) (λ k. q .fresh i h k e)) (q .entries .apart),
-    )
+  pub room : {s : ℕ} → Waits tally queue Q head tail s → counts tally s ≡ 1 → tail < rows
+  room {s} q e =
+      omega (
+        arith,
+        length-upTo rows,
+        length-without-lt (∈-upTo (few s (q .inside))),
+        injection-length tail (λ i. getD queue i 0) (without s (upTo rows))
+            (λ i h. ∈-without (∈-upTo (few _ (q .entries .looked i h))) (λ k. q .fresh i h k e)) (q .entries .apart),
+      )
+
+-- ---- rows are looked at
+
+module _ {tally queue : List ℕ} {Q : ℕ → Type 0} {head tail : ℕ} (q : Queued tally queue Q head tail) (Q' : ℕ → Type 0) (all : (r : ℕ) → Q r → Q' r) where
+  -- one more, row s
+  pub looks : (s : ℕ) → Q' s → ((r : ℕ) → Q' r → r ≢ s → Q r) → (counts tally s ≡ 1 → ¬ (Q s)) → Waits tally queue Q' head tail s
+  looks s h only new = record {
+    order = q .order;
+    entries = record { looked = λ i h. all _ (q .entries .looked i h); apart = q .entries .apart; low = q .entries .low };
+    waiting = λ r h n e. q .waiting r (only r h n) e;
+    inside = h;
+    fresh = λ i h e one. new one (subst Q e (q .entries .looked i h));
+  }
+
+  -- any that have not exactly one left
+  pub widened : ((r : ℕ) → Q' r → counts tally r ≡ 1 → Q r) → Queued tally queue Q' head tail
+  widened old = record {
+    order = q .order;
+    entries = record { looked = λ i h. all _ (q .entries .looked i h); apart = q .entries .apart; low = q .entries .low };
+    waiting = λ r h e. q .waiting r (old r h e) e;
+  }
 
 -- ---- the rows are scanned from 0 on
 
 -- what sweeping the rows from i up to j requires
 pub record Sweepable (tally queue : List ℕ) (i j tail : ℕ) : Type 0 where
-  pub queued : Queued tally queue i 0 tail
+  pub queued : Queued tally queue (Below i) 0 tail
   pub order : i ≤ j
   pub tally-long : j ≤ length tally
   pub queue-long : j ≤ length queue
   pub few : j ≤ 2 * maxT
 
--- the rows below i are scanned, row i is next
-pub seeds : {tally queue : List ℕ} {i tail : ℕ} → Queued tally queue i 0 tail → Waits tally queue (i + 1) 0 tail i
-seeds q = record {
-  order = omega arith;
-  entries = record { below = λ k h. omega (arith, q .entries .below k h); apart = q .entries .apart; low = q .entries .low };
-  waiting = λ r h n e. q .waiting r (omega arith) e;
-  inside = omega arith;
-  fresh = λ k h e. absurd (omega (arith, q .entries .below k h));
-}
-
-module _ {tally queue : List ℕ} {rows head tail s : ℕ} (q : Waits tally queue rows head tail s) (l : tail < length queue) (one : counts tally s ≡ 1) where
+module _ {tally queue : List ℕ} {Q : ℕ → Type 0} {head tail s : ℕ} (q : Waits tally queue Q head tail s) (l : tail < length queue) (one : counts tally s ≡ 1) where
   last : getD (set queue tail s) tail 0 ≡ s
   last = getD-set-same queue tail s 0 l
 
@@ -120,11 +138,11 @@ module _ {tally queue : List ℕ} {rows head tail s : ℕ} (q : Waits tally queu
       (λ e. rw (e, last) new)
       (λ n. let k : i < tail = omega arith in rw (early i k) (old i k))
 
-  pushed : Queued tally (set queue tail s) rows head (tail + 1)
+  pushed : Queued tally (set queue tail s) Q head (tail + 1)
   pushed = record {
     order = omega (arith, q .order);
     entries = record {
-      below = each (λ i r. r < rows) (q .entries .below) (q .inside);
+      looked = each (λ i r. Q r) (q .entries .looked) (q .inside);
       apart = λ i j h k.
           each (λ i r. r ≡ getD (set queue tail s) j 0 → i ≡ j)
           (λ i h. each (λ j r. getD queue i 0 ≡ r → i ≡ j) (λ j k. q .entries .apart i j h k) (λ e. absurd (q .fresh i h e one)) j k)
@@ -139,30 +157,21 @@ module _ {tally queue : List ℕ} {rows head tail s : ℕ} (q : Waits tally queu
   }
 
 -- what stands past the tail is free
-beyond : {tally queue queue' : List ℕ} {rows head tail : ℕ} → Queued tally queue rows head tail
-    → ((i : ℕ) → i < tail → getD queue' i 0 ≡ getD queue i 0) → Queued tally queue' rows head tail
+beyond : {tally queue queue' : List ℕ} {Q : ℕ → Type 0} {head tail : ℕ} → Queued tally queue Q head tail
+    → ((i : ℕ) → i < tail → getD queue' i 0 ≡ getD queue i 0) → Queued tally queue' Q head tail
 beyond q same = record {
   order = q .order;
   entries = record {
-    below = λ i h. rw (same i h) (q .entries .below i h);
+    looked = λ i h. rw (same i h) (q .entries .looked i h);
     apart = λ i j h k e. q .entries .apart i j h k (sym (same i h) ∙ e ∙ same j k);
     low = λ i h. rw (same i h) (q .entries .low i h);
   };
   waiting = λ r h e. let w = q .waiting r h e in (w .0, w .1, w .2, same (w .0) (w .2) ∙ w .3);
 }
 
--- the rows from i up to j are passed over, none of them having exactly one tally
-pub skipped : {tally queue : List ℕ} {i tail : ℕ} (j : ℕ) → Queued tally queue i 0 tail → i ≤ j
-    → ((r : ℕ) → i ≤ r → r < j → counts tally r ≢ 1) → Queued tally queue j 0 tail
-skipped {tally} {i = i} j q l n = record {
-  order = q .order;
-  entries = record { below = λ k h. omega (arith, q .entries .below k h); apart = q .entries .apart; low = q .entries .low };
-  waiting = λ r h e. by-cases (decLt r i) (λ k. q .waiting r k e) (λ k. absurd (n r (omega arith) h e));
-}
-
-pub entered : {tally queue : List ℕ} {rows head tail s rest : ℕ} {queue' : List ℕ} {tail' : ℕ} → Waits tally queue rows head tail s
-    → (counts tally s ≡ 1 → tail < length queue) → rest ≡ counts tally s → Enters queue tail s rest queue' tail' → Queued tally queue' rows head tail'
-entered {tally} {queue} {rows} {head} {tail} {s} {rest} {queue'} {tail'} q l same t =
+pub entered : {tally queue : List ℕ} {Q : ℕ → Type 0} {head tail s rest : ℕ} {queue' : List ℕ} {tail' : ℕ} → Waits tally queue Q head tail s
+    → (counts tally s ≡ 1 → tail < length queue) → rest ≡ counts tally s → Enters queue tail s rest queue' tail' → Queued tally queue' Q head tail'
+entered {tally} {queue} {Q} {head} {tail} {s} {rest} {queue'} {tail'} q l same t =
     by-cases (ℕ-discrete rest 1)
     (λ one. let e = t .enters one in let k = sym same ∙ one in rw (e .0, e .1) (pushed q (l k) k))
     (λ n.
@@ -178,25 +187,28 @@ entered {tally} {queue} {rows} {head} {tail} {s} {rest} {queue'} {tail'} q l sam
 
 module _ {tally queue : List ℕ} {i j tail : ℕ} (w : Sweepable tally queue i j tail) where
   pub sweep-room : i < j → tail < length queue
-  sweep-room h = omega (arith, full (w .queued), w .queue-long)
+  sweep-room h = omega (arith, full (λ r l. l) (w .queued), w .queue-long)
 
   pub sweep-more : i < j → {queue' : List ℕ} {rest : ℕ} → queue' ≡ set queue tail i → rest ≡ counts tally i
       → Sweepable tally queue' (i + 1) j (tail + boolByte (eqb rest 1))
   sweep-more h {rest = rest} f e = rw f (record {
-    queued = entered (seeds (w .queued)) (λ _. sweep-room h) e (stored queue tail i rest);
+    queued =
+        entered
+        (looks (w .queued) (Below (i + 1)) (λ r l. omega arith) i (omega arith) (λ r l n. omega arith) (λ _ l. omega arith))
+        (λ _. sweep-room h) e (stored queue tail i rest);
     order = omega arith;
     tally-long = w .tally-long;
     queue-long = rw (length-set queue tail i) (w .queue-long);
     few = w .few;
   })
 
-  pub sweep-end : j ≤ i → Queued tally queue j 0 tail
-  sweep-end h = subst (λ i. Queued tally queue i 0 tail) (le-antisymm (w .order) h) (w .queued)
+  pub sweep-end : j ≤ i → Queued tally queue (Below j) 0 tail
+  sweep-end h = subst (λ i. Queued tally queue (Below i) 0 tail) (le-antisymm (w .order) h) (w .queued)
 
   -- rows of which none has exactly one left are passed at once
-  pub sweep-none : allZero (map one (take (j - i) (drop i tally))) ≡ true → Queued tally queue j 0 tail
+  pub sweep-none : allZero (map one (take (j - i) (drop i tally))) ≡ true → Queued tally queue (Below j) 0 tail
   unfolding counts
-  sweep-none z = skipped j (w .queued) (w .order) none
+  sweep-none z = widened (w .queued) (Below j) (λ r l. omega (arith, w .order)) (λ r h e. by-cases (decLt r i) (λ k. k) (λ k. absurd (none r (omega arith) h e)))
     where
       none : (r : ℕ) → i ≤ r → r < j → counts tally r ≢ 1
       none r l h q =
@@ -215,13 +227,13 @@ module _ {tally queue : List ℕ} {i j tail : ℕ} (w : Sweepable tally queue i 
     few = omega (arith, w .few);
   }
 
-  pub sweep-rest : {queue' : List ℕ} {k tail' : ℕ} → k ≤ j → Queued tally queue' k 0 tail' → length queue' ≡ length queue → Sweepable tally queue' k j tail'
+  pub sweep-rest : {queue' : List ℕ} {k tail' : ℕ} → k ≤ j → Queued tally queue' (Below k) 0 tail' → length queue' ≡ length queue → Sweepable tally queue' k j tail'
   sweep-rest h q l = record { queued = q; order = h; tally-long = w .tally-long; queue-long = omega (arith, w .queue-long); few = w .few }
 
 -- the head's row has not one tally: it is passed over
-pub passed : {tally queue : List ℕ} {rows head tail : ℕ} → Queued tally queue rows head tail → head < tail
-    → counts tally (getD queue head 0) ≢ 1 → Queued tally queue rows (head + 1) tail
-passed {tally} {queue} {head} q h n = record {
+pub passed : {tally queue : List ℕ} {Q : ℕ → Type 0} {head tail : ℕ} → Queued tally queue Q head tail → head < tail
+    → counts tally (getD queue head 0) ≢ 1 → Queued tally queue Q (head + 1) tail
+passed {tally} {queue} {head = head} q h n = record {
   order = omega arith;
   entries = q .entries;
   waiting = λ r k e.
@@ -237,11 +249,11 @@ pub record Lowers (tally tally' : List ℕ) (a b : ℕ) : Type 0 where
   pub rest : (r : ℕ) → r ≢ a → r ≢ b → counts tally' r ≡ counts tally r
 
 -- the head's row is settled, and its other row may enter
-pub taken : {tally queue tally' : List ℕ} {rows head tail b : ℕ} → Queued tally queue rows head tail → head < tail → b < rows
-    → Lowers tally tally' (getD queue head 0) b → Waits tally' queue rows (head + 1) tail b
-taken {tally} {queue} {tally'} {rows} {head} {tail} {b} q h l d = record {
+pub taken : {tally queue tally' : List ℕ} {Q : ℕ → Type 0} {head tail b : ℕ} → Queued tally queue Q head tail → head < tail → Q b
+    → Lowers tally tally' (getD queue head 0) b → Waits tally' queue Q (head + 1) tail b
+taken {tally} {queue} {tally'} {Q} {head} {tail} {b} q h l d = record {
   order = omega arith;
-  entries = record { below = q .entries .below; apart = q .entries .apart; low = λ i k. omega (arith, fall (getD queue i 0), q .entries .low i k) };
+  entries = record { looked = q .entries .looked; apart = q .entries .apart; low = λ i k. omega (arith, fall (getD queue i 0), q .entries .low i k) };
   waiting = λ r k n e.
       let m : r ≢ getD queue head 0 = λ z. omega (arith, d .none, sym (ap (λ r. counts tally' r) z) ∙ e) in
       let w = q .waiting r k (sym (d .rest r m n) ∙ e) in
@@ -258,5 +270,5 @@ taken {tally} {queue} {tally'} {rows} {head} {tail} {b} q h l d = record {
         (λ n. by-cases (ℕ-discrete r b) (λ e. rw e (omega (arith, d .less))) (λ m. omega (arith, d .rest r n m)))
 
 -- at the end no row has exactly one tally
-pub emptied : {tally queue : List ℕ} {rows head tail : ℕ} → Queued tally queue rows head tail → tail ≤ head → (r : ℕ) → r < rows → counts tally r ≢ 1
+pub emptied : {tally queue : List ℕ} {Q : ℕ → Type 0} {head tail : ℕ} → Queued tally queue Q head tail → tail ≤ head → (r : ℕ) → Q r → counts tally r ≢ 1
 emptied q h r k e = let w = q .waiting r k e in omega (arith, w .1, w .2)

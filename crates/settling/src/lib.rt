@@ -3,4 +3,5 @@
 pub mod fill;
 pub mod queue;
 pub mod settle;
+pub mod starts;
 mod zeros;

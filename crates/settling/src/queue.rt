@@ -3,7 +3,7 @@ ghost use mathlib.Core.Path.{_≡_};
 ghost use Prim.Native.Nat.{_+_, _*_, _<_, _≤_};
 ghost use lib.ListN.{length};
 ghost use Rattle.bounds.specs.Bounds.{maxT};
-ghost use Rattle.settling.specs.Queue.{Enters, Queued, Sweepable};
+ghost use Rattle.settling.specs.Queue.{Below, Enters, Queued, Sweepable};
 use crate::zeros::no_ones;
 use plan::Row;
 use tables::lists::put_row;
@@ -38,7 +38,7 @@ pub fn enter_stored(queue: &mut [u16], tail: usize, row: Row, rest: u16) -> usiz
 // no branch, since which rows enter is hard to foresee.
 fn sweep(tally: &[u16], queue: &mut [u16], from: usize, to: usize, tail: usize) -> usize
     requires { ⌜ Sweepable (now tally) (now queue) from to tail ⌝ }
-    ensures { λ r. ⌜ Queued (now (tally .entry)) (now (queue .exit)) to 0 r ⌝ }
+    ensures { λ r. ⌜ Queued (now (tally .entry)) (now (queue .exit)) (Below to) 0 r ⌝ }
 {
     let mut end = tail;
     let mut r = from;
@@ -53,7 +53,7 @@ fn sweep(tally: &[u16], queue: &mut [u16], from: usize, to: usize, tail: usize) 
 // The same of eight rows, passed at once if none has exactly one left.
 fn sweep_group(tally: &[u16], queue: &mut [u16], from: usize, tail: usize) -> usize
     requires { ⌜ Sweepable (now tally) (now queue) from (from + 8) tail ⌝ }
-    ensures { λ r. ⌜ Queued (now (tally .entry)) (now (queue .exit)) (from + 8) 0 r ⌝ }
+    ensures { λ r. ⌜ Queued (now (tally .entry)) (now (queue .exit)) (Below (from + 8)) 0 r ⌝ }
 {
     let to = from + 8;
     if no_ones(&tally[from..to]) {
@@ -65,7 +65,7 @@ fn sweep_group(tally: &[u16], queue: &mut [u16], from: usize, tail: usize) -> us
 // Every row with exactly one left enters, in rising order; gives the tail.
 pub fn seed(t: usize, tally: &[u16], queue: &mut [u16]) -> usize
     requires { ⌜ (t ≤ maxT) × (length (now tally) ≡ 2 * t) × (length (now queue) ≡ 2 * t) ⌝ }
-    ensures { λ r. ⌜ Queued (now (tally .entry)) (now (queue .exit)) (2 * t) 0 r ⌝ }
+    ensures { λ r. ⌜ Queued (now (tally .entry)) (now (queue .exit)) (Below (2 * t)) 0 r ⌝ }
 {
     let rows = 2 * t;
     let mut tail = 0;

@@ -1,6 +1,6 @@
 -- The tests of a lent state, and what a state that passes has.
 -- Main results: block-off, marks-off, line-last; no-plan, plan-stops, plan-passes; pass-kept, kept-pass.
-use mathlib.Core.Path.{_≡_, refl, sym, _∙_, ap}
+use mathlib.Core.Path.{_≡_, sym, _∙_, ap}
 use mathlib.Core.Bool.{Bool, true, false, cond, not, true≢false, _&&_}
 use mathlib.Core.List.{List}
 use Prim.Native.Nat.{ℕ, _+_, _*_, _/_}

@@ -12,7 +12,7 @@ use native.Mathlib.Decide.{decLt}
 use native.Mathlib.Omega.{arith}
 use borrow.Author.Tests.{lt-ltb, le-ltb}
 use lib.Dec.{ltb}
-use lib.ListN.{length, getD, take, drop, replicate, length-drop, length-replicate, getD-replicate, List·getD-eq-default}
+use lib.ListN.{length, getD, take, drop, replicate, length-drop, getD-replicate, List·getD-eq-default}
 use lib.Seq.{getD-take, getD-drop, take-all, length-take-le}
 use Rattle.math.specs.Members.{_∈_, from, upTo}
 use Rattle.math.specs.MembersLaws.{by-test, ∈-from, from-∈, rising-from, rising-distinct, upTo-append, upTo-suc, upTo-∈}
@@ -20,7 +20,7 @@ use Rattle.math.specs.Xor.{_⊕_, xor, ⊕-zero, ⊕-assoc, zero-⊕}
 use Rattle.math.specs.Sums.{xorOver, only}
 use Rattle.math.specs.SumsLaws.{only-true, only-false, xorOver-ext, xorOver-append, xorOver-one}
 use Rattle.math.specs.Residues.{back-forth, forth-back}
-use Rattle.plan.specs.Layout.{layout, top, bottom, bottomRow}
+use Rattle.plan.specs.Layout.{layout, bottomRow}
 use Rattle.plan.specs.GoodPlan.{GoodPlan}
 use Rattle.code.specs.Places.{Meets, meets}
 use Rattle.code.specs.Codewords.{syndrome}
@@ -304,29 +304,42 @@ turned-symbol t j shifts block section i ht e =
     let o : ℕ = (i + getD shifts j 0) % t in
     ap (λ y. getD y o 0) e ∙ getD-take t (drop (j * t) block) o 0 (mod-lt (i + getD shifts j 0) ht) ∙ getD-drop (j * t) block o 0
 
-module _ (t j : ℕ) (shifts block : List ℕ) (ht : 0 < t) {old mid new : List ℕ} (A : Mapped (added (turned t shifts block) j) old mid) where
-  -- one section more, and two
-  pub turned-one : (section : List ℕ) → section ≡ take t (drop (j * t) block) → Mapped (turnedBy t (getD shifts j 0) section) mid new
-      → Mapped (added (turned t shifts block) (j + 1)) old new
-  turned-one section e M =
-      let w : ℕ → ℕ → ℕ = λ m i. getD section ((i + getD shifts j 0) % t) 0 in
-      added-more (turned t shifts block) w j 1 A (one-added w M)
-      (λ m i h k. let z : j ≡ j + m = omega arith in turned-symbol t j shifts block section i ht e ∙ ap (λ y. turned t shifts block y i) z)
+-- what was added by one call of the sections from j on: k of them, at least one and no more than are left
+pub record Turns (n t : ℕ) (shifts block : List ℕ) (j : ℕ) (old : List ℕ) (k : ℕ) (new : List ℕ) : Type 0 where
+  pub some : 0 < k
+  pub most : j + k ≤ n
+  pub sums : {first : List ℕ} → Mapped (added (turned t shifts block) j) first old → Mapped (added (turned t shifts block) (j + k)) first new
 
-  pub turned-two : (a b : List ℕ) → a ≡ take t (drop (j * t) block) → b ≡ take t (drop ((j + 1) * t) block)
-      → Mapped (turnedTwo t (getD shifts j 0) (getD shifts (j + 1) 0) a b) mid new → Mapped (added (turned t shifts block) (j + 2)) old new
-  turned-two a b ea eb M =
+module _ (n t j : ℕ) (shifts block : List ℕ) (ht : 0 < t) {old new : List ℕ} where
+  pub turns-one : (section : List ℕ) → j < n → section ≡ take t (drop (j * t) block) → Mapped (turnedBy t (getD shifts j 0) section) old new
+      → Turns n t shifts block j old 1 new
+  turns-one section h e M =
+      let w : ℕ → ℕ → ℕ = λ m i. getD section ((i + getD shifts j 0) % t) 0 in
+      record {
+        some = omega arith;
+        most = omega arith;
+        sums = λ A. added-more (turned t shifts block) w j 1 A (one-added w M)
+            (λ m i l k. let z : j ≡ j + m = omega arith in turned-symbol t j shifts block section i ht e ∙ ap (λ y. turned t shifts block y i) z);
+      }
+
+  pub turns-two : (a b : List ℕ) → j + 1 < n → a ≡ take t (drop (j * t) block) → b ≡ take t (drop ((j + 1) * t) block)
+      → Mapped (turnedTwo t (getD shifts j 0) (getD shifts (j + 1) 0) a b) old new → Turns n t shifts block j old 2 new
+  turns-two a b h ea eb M =
       let w : ℕ → ℕ → ℕ = λ m i. turned t shifts block (j + m) i in
-      added-more (turned t shifts block) w j 2 A
-      (two-added w (record {
-        long = M .long;
-        each = λ i h.
-            let z : j ≡ j + 0 = omega arith in
-            M .each i h
-            ∙ ap₂ (λ y z. getD mid i 0 ⊕ y ⊕ z)
-            (turned-symbol t j shifts block a i ht ea ∙ ap (λ y. turned t shifts block y i) z) (turned-symbol t (j + 1) shifts block b i ht eb);
-      }))
-      (λ m i h k. refl)
+      record {
+        some = omega arith;
+        most = omega arith;
+        sums = λ A. added-more (turned t shifts block) w j 2 A
+            (two-added w (record {
+              long = M .long;
+              each = λ i l.
+                  let z : j ≡ j + 0 = omega arith in
+                  M .each i l
+                  ∙ ap₂ (λ y z. getD old i 0 ⊕ y ⊕ z)
+                  (turned-symbol t j shifts block a i ht ea ∙ ap (λ y. turned t shifts block y i) z) (turned-symbol t (j + 1) shifts block b i ht eb);
+            }))
+            (λ m i l k. refl);
+      }
 
 -- ---- the places of a section
 

@@ -1,10 +1,10 @@
-// The sums of all rows of a block: of the top rows up to eight sections at a time, of the bottom rows two.
+// The sums of all rows of a block: of the top rows up to eight sections at a time, of the bottom rows up to two.
 // Public for the crates above only.
 ghost use mathlib.Core.Path.{_≡_};
 ghost use Prim.Native.Nat.{_*_, _≤_, _<_};
 ghost use lib.ListN.{length, replicate};
 ghost use Rattle.plan.specs.GoodPlan.{GoodPlan};
-ghost use Rattle.sums.specs.SumLaws.{Xored, withTwo, added, straight, turned, turnedBy, turnedTwo, Taken, Syndromes};
+ghost use Rattle.sums.specs.SumLaws.{Xored, withTwo, added, straight, turned, turnedBy, turnedTwo, Taken, Turns, Syndromes};
 ghost use Rattle.tables.specs.Sweeps.{Mapped};
 
 // Adds src to dst, symbol by symbol.
@@ -131,6 +131,37 @@ fn add_turned(t: usize, p: usize, section: &[u8], bottom: &mut [u8])
     xor_into(&mut bottom[cut..t], &section[0..p]);
 }
 
+// Sections from this length on are added to the bottom rows two at a time: the three parts of a shorter pair are too short to gain by it.
+const LONG: usize = 256;
+
+// Adds the next sections from section j on, which begins at place a, turned by their shifts: two or one. Gives back how many.
+fn add_turns(
+    n: usize,
+    t: usize,
+    shifts: &[u16],
+    block: &[u8],
+    j: usize,
+    a: usize,
+    bottom: &mut [u8],
+) -> usize
+    requires { ⌜ GoodPlan n t (now shifts) × (length (now block) ≡ n * t) × (length (now bottom) ≡ t) ⌝ }
+    requires { ⌜ (j < n) × (a ≡ j * t) ⌝ }
+    ensures { λ r. ⌜ Turns n t (now (shifts .entry)) (now (block .entry)) j (now (bottom .entry)) r (now (bottom .exit)) ⌝ }
+{
+    let p = shifts[j] as usize;
+    let b = a + t;
+    if LONG <= t {
+        if j + 1 < n {
+            let q = shifts[j + 1] as usize;
+            let end = b + t;
+            add_two(t, p, q, &block[a..b], &block[b..end], &mut bottom[..]);
+            return 2;
+        }
+    }
+    add_turned(t, p, &block[a..b], &mut bottom[..]);
+    1
+}
+
 // Adds all sections to the sums of the bottom rows.
 fn add_bottoms(n: usize, t: usize, shifts: &[u16], block: &[u8], bottom: &mut [u8])
     requires { ⌜ GoodPlan n t (now shifts) × (length (now block) ≡ n * t) × (length (now bottom) ≡ t) ⌝ }
@@ -138,21 +169,11 @@ fn add_bottoms(n: usize, t: usize, shifts: &[u16], block: &[u8], bottom: &mut [u
 {
     let mut j = 0;
     let mut a = 0;
-    while j + 1 < n {
-        let p = shifts[j] as usize;
-        let q = shifts[j + 1] as usize;
-        let b = a + t;
-        let end = b + t;
-        add_two(t, p, q, &block[a..b], &block[b..end], &mut bottom[..]);
-        a = end;
-        j += 2;
+    while j < n {
+        let k = add_turns(n, t, shifts, block, j, a, &mut bottom[..]);
+        a += k * t;
+        j += k;
     }
-    if n <= j {
-        return;
-    }
-    let p = shifts[j] as usize;
-    let end = a + t;
-    add_turned(t, p, &block[a..end], &mut bottom[..]);
 }
 
 // The row sums of the block, into a table of zeros.

@@ -9,5 +9,6 @@ pub mod Zeros
 pub mod StuckLaws
 pub mod Bounds
 pub mod Counting
+pub mod WordWalk
 pub mod Scan
 pub mod Stretches

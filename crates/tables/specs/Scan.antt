@@ -1,35 +1,30 @@
 -- The scan of the marks, a word of 64 at a time: the table tallies the erasures below the place that the scan has come to.
--- Main results: the steps within a word (noting-start, noting-due, noting-more, noting-done) and the end of the scan (scanned-end);
+-- Main results: the steps within a word (noting-due, noting-more) and the end of the scan (scanned-end);
 -- `toNote` selects the marked places from a place on.
-use mathlib.Core.Path.{_≡_, refl, sym, _∙_, ap}
-use mathlib.Core.Bool.{Bool, true, false}
+use mathlib.Core.Path.{_≡_, sym, _∙_, ap}
 use mathlib.Core.Logic.{_≢_, by-cases}
 use mathlib.Core.List.{List}
 use Prim.Native.Nat.{ℕ, _+_, _-_, _*_, _/_, _≤_, _<_}
 use native.Mathlib.Decide.{decLt}
 use native.Mathlib.Omega.{arith}
-use borrow.Author.Tests.{le-leb, lt-leb, leb-true}
 use lib.Dec.{leb}
 use lib.ListN.{length, replicate}
 use lib.Bits.{bitAnd}
 use lib.Count.{trailingZeros}
 use Rattle.math.specs.Members.{_∈_, Rising}
 use Rattle.math.specs.MembersLaws.{rising-keep}
-use Rattle.math.specs.Sums.{only}
-use Rattle.math.specs.SumsLaws.{only-true, only-false}
 use Rattle.plan.specs.Layout.{layout}
 use Rattle.plan.specs.GoodPlan.{GoodPlan}
 use Rattle.code.specs.Places.{places}
-use Rattle.code.specs.Codewords.{bitOf}
 use Rattle.code.specs.Marks.{mark, erasures, NoSpare}
 use Rattle.code.specs.Laws.Forest.{Erased}
 use Rattle.code.specs.Laws.MarksLaws.{in-erasures, rising-erasures}
 use Rattle.tables.specs.Picture.{Counted}
-use Rattle.tables.specs.Spots.{Reached, reached-on}
+use Rattle.tables.specs.Spots.{Reached}
 use Rattle.tables.specs.Sizes.{∈-good}
+use Rattle.tables.specs.WordWalk.{Skips, WordWalk, walk-late, walk-marked, walk-at, walk-more}
 use Rattle.tables.specs.Counting.{fromPlace, in-from, from-in, Seen, All, Due, Notes, seen-start, seen-at, seen-skip, seen-all}
-use Rattle.bits.specs.Lowest.{zeros-below, first-one, bit-beyond, dropped-low, dropped-high, dropped-less}
-use Rattle.bits.specs.Words.{Clear, Word, word-late, past-last}
+use Rattle.bits.specs.Words.{Clear, past-last}
 
 -- what is lent for a scan: a plan's numbers, and a mark bit for each place
 pub record Lent (n t : ℕ) (shifts marks : List ℕ) : Type 0 where
@@ -86,130 +81,36 @@ marked-inside {n} {t} {marks = marks} lent c m =
     (λ h. absurd (omega (arith, sym (lent .no-spare c (omega arith) h) ∙ m)))
     (λ h. absurd (omega (arith, sym (past-last marks c (omega arith)) ∙ m))))
 
-pub only-one : (b : Bool) (x : ℕ) → only b x ≡ 1 → (b ≡ true) × (x ≡ 1)
-unfolding only
-only-one true x e = (refl, e)
-only-one false x e = absurd (omega arith)
+-- ---- a word of marks
 
--- The word of marks from place c on. Every place below `next` is seen, and the bits of `rest` are the places from there on that are still to be noted;
--- the section is one that begins at or before `next`.
-pub record Noting (n t : ℕ) (shifts marks : List ℕ) (a c rest j begin end p : ℕ) (tally : List ℕ) : Type 0 where
-  pub next : ℕ
-  pub seen : Scanned n t shifts marks a next tally
-  pub reached : Reached n t shifts next j begin end p
-  pub late : a ≤ next
-  pub from-word : c ≤ next
-  pub in-word : next ≤ c + 64
-  pub word : Word marks next c rest
+module _ {n t : ℕ} {shifts marks : List ℕ} {a : ℕ} {tally : List ℕ} where
+  pub scanned-skips : Skips marks a (λ c. Scanned n t shifts marks a c tally)
+  scanned-skips c c' S g h = scanned-skip c' S g h
 
-pub noting-start : {n t : ℕ} {shifts marks : List ℕ} {a c w j begin end p : ℕ} {tally : List ℕ} → Scanned n t shifts marks a c tally
-    → Reached n t shifts c j begin end p → a ≤ c + 64 → Word marks a c w → Noting n t shifts marks a c w j begin end p tally
-noting-start {a = a} {c = c} S R h W =
-    by-cases (decLt c a)
-    (λ l. record {
-      next = a;
-      seen = scanned-skip a S (omega arith) (λ d x y m k. omega arith);
-      reached = reached-on a (omega arith) R;
-      late = omega arith;
-      from-word = omega arith;
-      in-word = h;
-      word = W;
-    })
-    (λ l. record {
-      next = c;
-      seen = S;
-      reached = R;
-      late = omega arith;
-      from-word = omega arith;
-      in-word = omega arith;
-      word = word-late c W (omega arith) (omega arith);
-    })
-
-module _ {n t : ℕ} {shifts marks : List ℕ} {a c rest j begin end p : ℕ} {tally : List ℕ}
-    (G : Noting n t shifts marks a c rest j begin end p tally) where
-  -- a place whose bit is 0 is not marked
-  no-mark : (d : ℕ) → G .next ≤ d → d < c + 64 → bitOf (d - c) rest ≡ 0 → mark marks d ≡ 1 → ⊥
-  no-mark d h l z m =
-      let g : c ≤ d = omega (arith, G .from-word) in
-      let e : c + (d - c) ≡ d = omega arith in
-      let q = G .word .each (d - c) (omega arith) in
-      let o : only (leb (G .next) (c + (d - c))) (mark marks (c + (d - c))) ≡ 1
-      = only-true (mark marks (c + (d - c))) (le-leb (G .next) (c + (d - c)) (omega arith)) ∙ ap (mark marks) e ∙ m in
-      omega (arith, sym z ∙ q ∙ o)
-
-  -- none is left
-  pub noting-done : rest ≡ 0 → Scanned n t shifts marks a (c + 64) tally
-  noting-done z =
-      scanned-skip (c + 64) (G .seen) (G .in-word)
-      (λ d x y m l. no-mark d x y (ap (bitOf (d - c)) z ∙ bit-beyond 0 (d - c) 0 (omega arith) (omega arith)) m)
-
-  pub noting-section : Reached n t shifts (c + 64) j begin end p
-  noting-section = reached-on (c + 64) (G .in-word) (G .reached)
-
-  module _ (some : rest ≢ 0) where
-    -- the lowest that is left
-    pub noting-bit : trailingZeros 64 rest < 64
-    noting-bit =
-        by-cases (decLt (trailingZeros 64 rest) 64) (λ h. h)
-        (λ h. absurd (omega (arith, sym (first-one 64 rest (G .word .small) some) ∙ bit-beyond 64 (trailingZeros 64 rest) rest (G .word .small) (omega arith))))
-
-    its-mark : (leb (G .next) (c + trailingZeros 64 rest) ≡ true) × (mark marks (c + trailingZeros 64 rest) ≡ 1)
-    its-mark =
-        only-one (leb (G .next) (c + trailingZeros 64 rest)) (mark marks (c + trailingZeros 64 rest))
-        (sym (G .word .each (trailingZeros 64 rest) noting-bit) ∙ first-one 64 rest (G .word .small) some)
-
-    after : G .next ≤ c + trailingZeros 64 rest
-    after = leb-true (G .next) (c + trailingZeros 64 rest) (its-mark .0)
-
-    pub noting-late : a ≤ c + trailingZeros 64 rest
-    noting-late = omega (arith, after, G .late)
-
-    pub noting-reached : Reached n t shifts (c + trailingZeros 64 rest) j begin end p
-    noting-reached = reached-on (c + trailingZeros 64 rest) after (G .reached)
-
-    its-all : Lent n t shifts marks → All (toNote n t shifts marks a) (c + trailingZeros 64 rest) (c + trailingZeros 64 rest + 1)
-    its-all lent d x y =
+  module _ {c rest j begin end p : ℕ} (G : WordWalk (λ c. Scanned n t shifts marks a c tally) n t shifts marks a c rest j begin end p) (some : rest ≢ 0)
+      (lent : Lent n t shifts marks) where
+    -- the lowest place that is left is to be noted
+    its-all : All (toNote n t shifts marks a) (c + trailingZeros 64 rest) (c + trailingZeros 64 rest + 1)
+    its-all d x y =
         let e : c + trailingZeros 64 rest ≡ d = omega arith in
-        let m : mark marks d ≡ 1 = ap (mark marks) (sym e) ∙ its-mark .1 in
-        ∈-noted n t shifts marks a (∈-good (lent .good) (marked-inside lent d m)) m (omega (arith, noting-late))
+        let m : mark marks d ≡ 1 = ap (mark marks) (sym e) ∙ walk-marked G some in
+        ∈-noted n t shifts marks a (∈-good (lent .good) (marked-inside lent d m)) m (omega (arith, walk-late G some))
 
-    its-scanned : Scanned n t shifts marks a (c + trailingZeros 64 rest) tally
-    its-scanned =
-        scanned-skip (c + trailingZeros 64 rest) (G .seen) after
-        (λ d x y m l. no-mark d x (omega (arith, noting-bit)) (zeros-below 64 rest (d - c) (omega (arith, G .from-word))) m)
-
-    pub noting-due : Lent n t shifts marks → Due n t shifts (c + trailingZeros 64 rest) (c + trailingZeros 64 rest + 1) tally
-    noting-due lent =
+    pub noting-due : Due n t shifts (c + trailingZeros 64 rest) (c + trailingZeros 64 rest + 1) tally
+    noting-due =
         record {
           good = lent .good;
           E = toNote n t shifts marks a;
           erased = erased-noted n t shifts marks a;
-          all = its-all lent;
-          seen = its-scanned .seen;
+          all = its-all;
+          seen = walk-at G some scanned-skips .seen;
         }
 
     -- it is noted, and cleared in the word
-    pub noting-more : {j' begin' end' p' : ℕ} {tally' : List ℕ} → Lent n t shifts marks
-        → Notes n t shifts (c + trailingZeros 64 rest) (c + trailingZeros 64 rest + 1) tally tally'
+    pub noting-more : {j' begin' end' p' : ℕ} {tally' : List ℕ} → Notes n t shifts (c + trailingZeros 64 rest) (c + trailingZeros 64 rest + 1) tally tally'
         → Reached n t shifts (c + trailingZeros 64 rest) j' begin' end' p'
-        → Noting n t shifts marks a c (bitAnd rest (rest - 1)) j' begin' end' p' tally'
-    noting-more lent N R =
-        let z : ℕ = trailingZeros 64 rest in
-        record {
-          next = c + z + 1;
-          seen = scanned-notes its-scanned (its-all lent) N;
-          reached = reached-on (c + z + 1) (omega arith) R;
-          late = omega (arith, noting-late);
-          from-word = omega arith;
-          in-word = omega (arith, noting-bit);
-          word = record {
-            small = omega (arith, dropped-less 64 rest (G .word .small) some, G .word .small);
-            each = λ b h. by-cases (decLt z b)
-                (λ l. dropped-high 64 rest (G .word .small) some b l ∙ G .word .each b h
-                ∙ ap (λ y. only y (mark marks (c + b))) (le-leb (G .next) (c + b) (omega (arith, after)) ∙ sym (le-leb (c + z + 1) (c + b) (omega arith))))
-                (λ l. dropped-low 64 rest (G .word .small) some b (omega arith) ∙ sym (only-false (mark marks (c + b)) (lt-leb (c + z + 1) (c + b) (omega arith))));
-          };
-        }
+        → WordWalk (λ c. Scanned n t shifts marks a c tally') n t shifts marks a c (bitAnd rest (rest - 1)) j' begin' end' p'
+    noting-more N R = walk-more G some (scanned-notes (walk-at G some scanned-skips) its-all N) R
 
 pub scanned-start : {n t : ℕ} {shifts : List ℕ} (marks : List ℕ) (a : ℕ) {tally : List ℕ} → tally ≡ replicate (2 * t) 0
     → Scanned n t shifts marks a 0 tally

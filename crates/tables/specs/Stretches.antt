@@ -21,7 +21,8 @@ use Rattle.tables.specs.Sizes.{∈-good}
 use Rattle.tables.specs.Sweeps.{Apart, Room, Swept, swept-none, swept-more, swept-same}
 use Rattle.tables.specs.Spots.{Stands, Reached, bottom-low, bottom-high}
 use Rattle.tables.specs.Counting.{All, Due, Notes, Ready, Noted, noted, due-here, due-long, notes-none, notes-at, notes-then, noted-notes}
-use Rattle.tables.specs.Scan.{Lent, Scanned, toNote, erased-noted, scanned-notes, ∈-noted, marked-inside, only-one}
+use Rattle.tables.specs.Scan.{Lent, Scanned, toNote, erased-noted, scanned-notes, ∈-noted, marked-inside}
+use Rattle.tables.specs.WordWalk.{only-one}
 
 -- the change at each of the places: weight w is added
 abbrev pub added : ℕ → ℕ → ℕ → ℕ

@@ -36,7 +36,7 @@ impl Section {
     }
 
     // The section of place c, which is this one or a later one: nearly always this one.
-    pub(crate) fn reach(self, n: usize, t: usize, shifts: &[u16], c: Place) -> Section
+    pub fn reach(self, n: usize, t: usize, shifts: &[u16], c: Place) -> Section
         requires { ⌜ GoodPlan n t (now shifts) × Reached n t (now shifts) (c .0) (self .index) (self .begin) (self .end) (self .shift) × (c .0 < n * t) ⌝ }
         ensures { λ r. ⌜ Reached n t (now (shifts .entry)) (c .0) (r .index) (r .begin) (r .end) (r .shift) × (c .0 < r .end) ⌝ }
     {

@@ -1,10 +1,8 @@
 -- What stands at the message places is gathered and encoded.
-use mathlib.Core.Path.{_≡_, refl, sym, _∙_}
+use mathlib.Core.Path.{refl, sym, _∙_}
 use native.Mathlib.Omega.{arith}
 use Prim.Native.Nat.{_≤_}
-use lib.ListN.{length}
 use Rattle.plan.specs.Plans.{layoutOf}
-use Rattle.plan.specs.Layout.{layout}
 use Rattle.plan.specs.PlanLaws.{good-bounds}
 use Rattle.blocks.specs.Fronts.{zeros-long, back-room, back-same, back-front}
 use Rattle.blocks.specs.RecoverLaws.{count-most, carried}

@@ -1,5 +1,4 @@
 -- The front parts of the buffers are sealed and cleared.
-use mathlib.Core.Path.{_≡_, refl, sym, _∙_}
 use native.Mathlib.Omega.{arith}
 use Rattle.act.specs.StateLaws.{places-most, places-fit, bytes-fit, front-long}
 use Rattle.blocks.specs.BlockLaws.{lent-whole, sealed-acts}

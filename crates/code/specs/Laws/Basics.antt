@@ -1,21 +1,21 @@
 -- First laws of places, rows and row sums: membership, where rows lie, the exchange of the two sums (rows, places), blocks from functions.
-use mathlib.Core.Path.{_≡_, refl, sym, _∙_, ap, subst}
-use mathlib.Core.Logic.{_≢_, _⊎_, inl, inr, ⊎-elim, by-cases}
-use mathlib.Core.Bool.{Bool, true, false, _||_, or-true}
+use mathlib.Core.Path.{_≡_, refl, sym, _∙_, ap}
+use mathlib.Core.Logic.{_≢_, inl, inr, by-cases}
+use mathlib.Core.Bool.{Bool, true, false, or-true}
 use mathlib.Core.List.{List, [], _∷_, map}
 use Prim.Native.Nat.{ℕ, zero, suc, _+_, _-_, _*_, _/_, _%_, _^_, _≤_, _<_}
-use native.Mathlib.Nat.{mod-lt, div-add-mod', div-lt-iff-lt-mul, mod-eq-of-lt, mod-mod, not-suc-le-zero, le-of-suc-le-suc}
+use native.Mathlib.Nat.{mod-lt, div-add-mod', not-suc-le-zero, le-of-suc-le-suc}
 use native.Mathlib.Decide.{decLt}
 use native.Mathlib.Omega.{arith}
 use lib.Dec.{eqb}
 use lib.Arith.{digits-lt, digits-div, digits-mod}
-use lib.ListN.{length, getD, length-map, List·getD-map, List·getD-eq-default}
-use borrow.Author.Tests.{eq-eqb, ne-eqb, eqb-true, eqb-false}
-use Rattle.math.specs.Members.{_∈_, isIn, upTo, keep, Rising, Distinct}
+use lib.ListN.{length, getD, length-map, List·getD-eq-default}
+use borrow.Author.Tests.{eq-eqb, ne-eqb, eqb-true}
+use Rattle.math.specs.Members.{_∈_, isIn, upTo, Rising, Distinct}
 use Rattle.math.specs.MembersLaws.{isIn-∈, ∈-isIn, ∈-upTo, upTo-∈, length-upTo, getD-upTo, rising-upTo, ∈-keep, keep-∈, rising-keep, rising-distinct, by-test}
-use Rattle.math.specs.Xor.{_⊕_, xor, ⊕-zero, zero-⊕}
+use Rattle.math.specs.Xor.{_⊕_, ⊕-zero, zero-⊕}
 use Rattle.math.specs.Sums.{xorOver, only}
-use Rattle.math.specs.SumsLaws.{only-true, only-false, only-zero, only-⊕, only-mod, xorOver-ext, xorOver-zero, xorOver-add, xorOver-swap, xorOver-only, xorOver-at, xorOver-mod}
+use Rattle.math.specs.SumsLaws.{only-zero, only-⊕, only-mod, xorOver-ext, xorOver-zero, xorOver-add, xorOver-swap, xorOver-only, xorOver-at, xorOver-mod}
 use Rattle.plan.specs.Layout.{Layout, Valid, placeOf, topRow, bottomRow, top, bottom}
 use Rattle.code.specs.Places.{places, rows, Meets, meets}
 use Rattle.code.specs.Codewords.{at, syndrome, Codeword}

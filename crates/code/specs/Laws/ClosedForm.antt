@@ -20,7 +20,7 @@ use Rattle.math.specs.Pigeonhole.{getD-∈, mem-map, map-mem, distinct-covers}
 use Rattle.math.specs.Residues.{add-congr, dvd-residue, residue-gap, mod-cancel-right}
 use Rattle.math.specs.Sums.{sumOver}
 use Rattle.math.specs.SumsLaws.{sumOver-ext}
-use Rattle.plan.specs.Layout.{Layout, Valid, placeOf, bottomRow, top, divisor}
+use Rattle.plan.specs.Layout.{Layout, Valid, placeOf, bottomRow, divisor}
 use Rattle.code.specs.Places.{places}
 use Rattle.code.specs.Components.{Connected}
 use Rattle.code.specs.Messages.{Parity}

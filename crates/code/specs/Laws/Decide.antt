@@ -8,7 +8,7 @@ use lib.ListN.{length, replicate}
 use Rattle.plan.specs.Layout.{Layout, Valid}
 use Rattle.code.specs.Codewords.{at, Agrees, Single, TwoOrMore, None}
 use Rattle.code.specs.Cycles.{Cycle}
-use Rattle.code.specs.Components.{Component, imbalance, Inconsistent}
+use Rattle.code.specs.Components.{Inconsistent}
 use Rattle.code.specs.Figures.{Pair, pairNumber}
 use Rattle.code.specs.Laws.Forest.{Erased, Forest, above}
 use Rattle.code.specs.Laws.Basics.{places-∈}

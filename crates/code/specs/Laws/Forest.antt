@@ -1,5 +1,4 @@
 -- What the theorems' proofs speak of beside the definitions: erasures as a rising list of places, forests, erasures above a place.
-use mathlib.Core.Path.{_≡_}
 use mathlib.Core.Bool.{cond}
 use mathlib.Core.List.{List, [], _∷_, map}
 use Prim.Native.Nat.{ℕ, _+_, _-_, _%_}

@@ -1,9 +1,8 @@
 -- The rulers of table I keep the ruler rule as the distance needs it, so their distance is 6.
-use mathlib.Core.Path.{_≡_, subst, sym}
-use mathlib.Core.List.{List}
+use mathlib.Core.Path.{subst, sym}
 use Prim.Native.Nat.{ℕ, _≤_, _<_}
 use native.Mathlib.Omega.{arith}
-use lib.ListN.{length, getD}
+use lib.ListN.{length}
 use Rattle.math.specs.MembersLaws.{upTo-∈, length-upTo, rising-upTo}
 use Rattle.plan.specs.Layout.{Layout, Valid, layout}
 use Rattle.ruler.specs.Ruler.{rulerT, rulerShifts, RulerRule}

@@ -1,7 +1,6 @@
 -- The front parts of the buffers are recovered.
-use mathlib.Core.Path.{_≡_, refl, sym, _∙_}
+use mathlib.Core.Path.{sym}
 use native.Mathlib.Omega.{arith}
-use Prim.Native.Nat.{_*_, _≤_}
 use Rattle.plan.specs.PlanLaws.{good-bounds}
 use Rattle.blocks.specs.Fronts.{zeros-long}
 use Rattle.act.specs.StateLaws.{places-most, places-fit, bytes-fit, front-long}

@@ -1,5 +1,4 @@
 -- `recover_whole` meets its contract. Assumes nothing.
-use mathlib.Core.Path.{_≡_, refl, sym, _∙_}
 use native.Mathlib.Omega.{arith}
 use Rattle.blocks.specs.RecoverLaws.{loose-within, crossed-within, on-recovered, on-loose, on-crossed, by-success, by-loose, by-crossed}
 use Rattle.lines.specs.LinesLaws.{wrote-front}

@@ -1,7 +1,6 @@
 -- A call that passes is sealed; a call that stops keeps the block.
 use borrow.Author.Needs.{needs}
-use mathlib.Core.Path.{_≡_, sym, _∙_}
-use lib.ListN.{length}
+use mathlib.Core.Path.{sym, _∙_}
 use Rattle.promises.specs.Building.{encodes-refused}
 use Rattle.sealing.specs.Passing.{pass-plan, pass-long, encoded}
 use Rattle.sealing.proofs.encode.Statement.{statement}

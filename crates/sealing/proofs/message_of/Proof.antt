@@ -1,8 +1,7 @@
 -- A call that stops and a block that is no codeword keep the message buffer; otherwise the message is read.
 use borrow.Author.Needs.{needs}
-use mathlib.Core.Path.{_≡_, sym, _∙_}
+use mathlib.Core.Path.{sym, _∙_}
 use borrow.Author.Tests.{not-true, not-false}
-use lib.ListN.{length}
 use Rattle.promises.specs.Building.{reads-refused}
 use Rattle.sealing.specs.Passing.{pass-plan, pass-long, read, crossed}
 use Rattle.sealing.proofs.message_of.Statement.{statement}

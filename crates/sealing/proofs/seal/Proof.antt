@@ -1,5 +1,4 @@
 -- The message is spread over the block, and the parity places are filled.
-use borrow.Author.Needs.{needs}
 use mathlib.Core.Path.{_∙_}
 use Rattle.parities.specs.Settling.{sealed}
 use Rattle.sealing.proofs.seal.Statement.{statement}

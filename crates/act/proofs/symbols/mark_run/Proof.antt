@@ -1,5 +1,4 @@
 -- Marks are set.
-use mathlib.Core.Path.{_≡_, refl, sym, _∙_}
 use native.Mathlib.Omega.{arith}
 use Rattle.act.specs.StateLaws.{run-inside, places-most}
 use Rattle.act.specs.ActLaws.{run-marked}

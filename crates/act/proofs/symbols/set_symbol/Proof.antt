@@ -1,5 +1,4 @@
 -- The symbol is stored and the mark cleared.
-use mathlib.Core.Path.{_≡_, refl, sym, _∙_}
 use native.Mathlib.Omega.{arith}
 use Rattle.act.specs.StateLaws.{place-inside, places-most}
 use Rattle.act.specs.ActLaws.{symbol-set}

@@ -1,5 +1,4 @@
 -- The symbol at the place is written.
-use mathlib.Core.Path.{_≡_, refl, sym, _∙_}
 use native.Mathlib.Omega.{arith}
 use Rattle.act.specs.StateLaws.{show-inside, places-most}
 use Rattle.act.specs.ActLaws.{shown}

@@ -1,5 +1,4 @@
 -- `parents::own` meets its contract. The invariant: the rows below r are their own parents. The measure is what is left of the rows. Assumes nothing.
-use borrow.Author.Needs.{needs}
 use Prim.Native.Nat.{_-_}
 use native.Mathlib.Omega.{arith}
 use lib.ListN.{length}

@@ -1,7 +1,6 @@
 -- `sums::note` meets its contract. Assumes nothing.
 use borrow.Author.Needs.{needs}
 use mathlib.Core.Path.{sym, _∙_}
-use native.Mathlib.Omega.{arith}
 use Rattle.components.specs.Lists.{gathers-in, gathers-out}
 use Rattle.components.proofs.sums.note.Statement.{statement}
 use Rattle.components.proofs.sums.note.Tie as tie

@@ -1,5 +1,4 @@
 -- `walk::join` meets its contract. Assumes nothing.
-use mathlib.Core.Path.{sym}
 use native.Mathlib.Omega.{arith}
 use Rattle.components.specs.Walking.{joinable, unites-at}
 use Rattle.components.proofs.walk.join.Statement.{statement}

@@ -3,7 +3,6 @@ use Rattle.plan.proofs.Answers.{failed, passed, blank-size, blank-made}
 use Rattle.shifts.specs.ShiftsLaws.{padded-zeros}
 use Rattle.plan.specs.PlanLaws.{size-fitting}
 use mathlib.Core.Path.{_∙_}
-use native.Mathlib.Omega.{arith}
 use borrow.Author.Needs.{needs}
 use Rattle.plan.proofs.Plan.blank.Statement.{statement}
 use Rattle.plan.proofs.Plan.blank.Tie as tie

@@ -15,7 +15,7 @@ abbrev μ-loop : tie.MeasureT-loop
 
 loop-holds : tie.Need-loop-holds Inv-loop μ-loop
 loop-holds c = (
-  record { queued = queued-none _ _; order = omega arith; tally-long = omega arith; queue-long = omega arith; few = omega arith },
+  record { queued = queued-none (λ r h. omega arith); order = omega arith; tally-long = omega arith; queue-long = omega arith; few = omega arith },
   refl,
 )
 

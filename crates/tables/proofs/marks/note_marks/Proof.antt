@@ -1,6 +1,6 @@
 -- `tables::marks::note_marks` meets its contract. The invariant: the table tallies the erasures below byte i, and a section is reached there.
 use mathlib.Core.Path.{sym, _∙_}
-use Prim.Native.Nat.{_+_, _-_, _*_, _/_, _≤_, _<_}
+use Prim.Native.Nat.{_+_, _-_, _*_, _/_, _<_}
 use native.Mathlib.Omega.{arith}
 use lib.ListN.{length}
 use Rattle.tables.specs.Spots.{Reached, reached-on}

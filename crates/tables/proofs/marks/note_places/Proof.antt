@@ -1,6 +1,6 @@
 -- `tables::marks::note_places` meets its contract. The invariant: the places from c to d are noted, the others are due, and a section is reached at d.
 use mathlib.Core.Path.{sym, _∙_}
-use Prim.Native.Nat.{_+_, _-_, _≤_}
+use Prim.Native.Nat.{_-_, _≤_}
 use native.Mathlib.Omega.{arith}
 use Rattle.tables.specs.Spots.{Reached, reached-on}
 use Rattle.tables.specs.Counting.{Due, Notes, due-inside, due-long, due-part, due-then, notes-at, notes-none, notes-then}
