@@ -31,7 +31,7 @@ use Rattle.cycle.specs.Shows.{Room}
 use Rattle.tables.specs.Bounds.{tally-some, tally-none}
 use Rattle.tables.specs.StuckLaws.{length-onRow-le, stuck-none}
 use Rattle.peel.specs.Peels.{Peelable, Peeled, Peels}
-use Rattle.settling.specs.Starts.{Startable}
+use Rattle.starts.specs.Starts.{Startable}
 use Rattle.settling.specs.Fill.{filled, Fillable, filled-long, filled-out, filled-at, cleanOf, clean-zero, zero-clean}
 use Rattle.calls.specs.Calls.{checkOf}
 use Rattle.calls.specs.CallsLaws.{pass-good, pass-spare}

@@ -14,7 +14,8 @@ use Rattle.plan.specs.GoodPlan.{GoodPlan}
 use Rattle.code.specs.Checks.{update}
 use Rattle.tables.specs.Picture.{counts, Picture, Pictured, Settles, Stuck}
 use Rattle.tables.specs.Bounds.{tally-counts}
-use Rattle.settling.specs.Queue.{Below, Queued, Waits, Enters, Lowers, room, full, entered, passed, taken, emptied}
+use Rattle.tables.specs.Singles.{Lowers}
+use Rattle.queue.specs.Queue.{Below, Queued, Waits, Enters, room, full, entered, passed, taken, emptied}
 use Rattle.settling.specs.Settling.{settles-none, settles-more}
 use Rattle.settling.specs.Takes.{One, Takes}
 

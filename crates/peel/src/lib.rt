@@ -3,13 +3,13 @@
 ghost use mathlib.Core.Path.{_≡_};
 ghost use Prim.Native.Nat.{_*_, _<_};
 ghost use Rattle.plan.specs.Layout.{layout};
-ghost use Rattle.settling.specs.Starts.{Startable};
+ghost use Rattle.starts.specs.Starts.{Startable};
 ghost use Rattle.peel.specs.Peels.{Ready, Steps, Peelable, Peels};
-use settling::queue::enter;
-use settling::queue::enter_stored;
-use settling::queue::seed;
+use queue::enter;
+use queue::enter_stored;
+use queue::seed;
 use settling::settle::settle;
-use settling::starts::seed_marked;
+use starts::seed_marked;
 use tables::lists::put_place;
 use tables::lists::row_at;
 use tables::rows::TALLY_UNIT;

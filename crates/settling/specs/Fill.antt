@@ -3,21 +3,16 @@
 use mathlib.Core.Path.{_≡_, refl, sym, _∙_, ap, subst}
 use mathlib.Core.Logic.{_≢_, by-cases}
 use mathlib.Core.Bool.{Bool, true, false, _&&_, true≢false}
-use mathlib.Core.List.{List, [], _∷_, map}
-use Prim.Native.Nat.{ℕ, zero, suc, _+_, _/_, _≤_, _<_}
+use mathlib.Core.List.{List}
+use Prim.Native.Nat.{ℕ, zero, suc, _+_, _≤_, _<_}
 use native.Mathlib.Decide.{ℕ-discrete}
 use native.Mathlib.Numerals.{add-one}
 use native.Mathlib.Omega.{arith}
-use lib.Bits.{bitOr}
-use lib.Dec.{eqb}
-use mir.Val.{boolByte}
 use lib.ListN.{length, getD, set, length-set}
 use lib.Seq.{getD-set-same, getD-set-other}
-use borrow.Author.Tests.{eq-eqb}
 use Rattle.math.specs.MembersLaws.{by-test}
 use Rattle.math.specs.Xor.{_⊕_}
-use Rattle.slices.specs.Zeros.{allZero, allZero-at, at-allZero, Gathers, gathers-more}
-use Rattle.tables.specs.Picture.{tallyUnit}
+use Rattle.slices.specs.Zeros.{allZero, allZero-at, at-allZero}
 
 -- the block with the first k values added at the first k places
 unfoldable pub filled : List ℕ → List ℕ → List ℕ → ℕ → List ℕ
@@ -89,22 +84,6 @@ pub filled-at : (block place value : List ℕ) (x : ℕ → ℕ) (k : ℕ) → (
 filled-at block place value x k l once v {c} m =
     subst (λ d. getD (filled block place value k) d 0 ≡ x d) (m .2) (filled-in block place value x k l once v (m .0) (m .1))
 
--- 1 for a tally that counts exactly one, else 0
-abbrev pub one : ℕ → ℕ
-one x = boolByte (eqb (x / tallyUnit) 1)
-
-pub one-at : (l : List ℕ) (i : ℕ) → getD (map one l) i 0 ≡ one (getD l i 0)
-one-at [] i = refl
-one-at (x ∷ l) zero = refl
-one-at (x ∷ l) (suc i) = one-at l i
-
--- tallies of which none counts exactly one
-pub no-ones-at : (l : List ℕ) → allZero (map one l) ≡ true → (i : ℕ) → getD l i 0 / tallyUnit ≢ 1
-no-ones-at l e i q =
-    let z : one (getD l i 0) ≡ 0 = sym (one-at l i) ∙ allZero-at (map one l) e i in
-    let o : one (getD l i 0) ≡ 1 = rw (eq-eqb (getD l i 0 / tallyUnit) 1 q) refl in
-    omega (arith, sym z ∙ o)
-
 -- no row has a sum, and none an erasure left
 unfoldable pub cleanOf : List ℕ → List ℕ → Bool
 cleanOf sum tally = allZero sum && allZero tally
@@ -128,7 +107,3 @@ not-clean sum tally f = rw f
 pub clean-rest : (sum tally : List ℕ) → allZero sum ≡ true → cleanOf sum tally ≡ allZero tally
 unfolding cleanOf
 clean-rest sum tally t = rw t
-
--- the tests of one number more
-pub gathers-ones : (l : List ℕ) {i acc : ℕ} → Gathers (map one l) i acc → Gathers (map one l) (i + 1) (bitOr acc (one (getD l i 0)))
-gathers-ones l {i} {acc} g = subst (λ y. Gathers (map one l) (i + 1) (bitOr acc y)) (one-at l i) (gathers-more g)

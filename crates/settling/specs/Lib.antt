@@ -1,6 +1,4 @@
--- Settling one erasure, the queue of the rows that have one left, adding the values, and the test for what is left.
-pub mod Queue
+-- Settling one erasure, adding the values, and the test for what is left.
 pub mod Settling
 pub mod Takes
 pub mod Fill
-pub mod Starts

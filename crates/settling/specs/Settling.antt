@@ -1,12 +1,10 @@
 -- Settling one erasure: what a row with one erasure left says, and the list of settled places.
--- Main results: single (its only place), row-forces (T1: the row's sum is what every codeword that agrees adds there),
+-- Main results: row-forces (T1: the row's sum is what every codeword that agrees adds there),
 -- touched-two (the tables after), settles-none and settles-more.
 use mathlib.Core.Path.{_≡_, refl, sym, _∙_, ap, subst}
 use mathlib.Core.Logic.{_≢_, _⊎_, ⊎-elim, by-cases}
-use mathlib.Core.List.{List, [], _∷_, List·Memᴰ·eq-of-singleton, Memᴰ·cast}
-use mathlib.Core.List.{List·Memᴰ·head as here}
+use mathlib.Core.List.{List, Memᴰ·cast}
 use Prim.Native.Nat.{ℕ, _+_, _*_, _<_}
-use native.Mathlib.Nat.{add-zero}
 use native.Mathlib.Decide.{ℕ-discrete}
 use native.Mathlib.Omega.{arith}
 use lib.ListN.{length, getD, set, length-set}
@@ -14,54 +12,21 @@ use lib.Seq.{getD-set-same, getD-set-other}
 use Rattle.math.specs.Members.{_∈_, without}
 use Rattle.math.specs.MembersLaws.{∈-without, without-∈}
 use Rattle.math.specs.Xor.{_⊕_, ⊕-self-left}
-use Rattle.math.specs.Sums.{xorOver, sumOver, only}
+use Rattle.math.specs.Sums.{xorOver, only}
 use Rattle.math.specs.SumsLaws.{only-lt, xorOver-lt, xorOver-split}
 use Rattle.plan.specs.Layout.{Layout}
 use Rattle.code.specs.Places.{places, Meets, meets}
 use Rattle.code.specs.Codewords.{syndrome}
 use Rattle.code.specs.Checks.{update, rowPlaces}
 use Rattle.code.specs.Laws.Settle.{update-same, update-other, ∈-rowPlaces, row-sum, distinct-row, other-places, row-forced}
-use Rattle.tables.specs.Picture.{weight, onRow, Counted, Settles}
+use Rattle.tables.specs.Picture.{Settles}
 use Rattle.tables.specs.PictureLaws.{Touched}
-use Rattle.tables.specs.StuckLaws.{∈-onRow, onRow-∈}
+use Rattle.tables.specs.Singles.{Single}
 
 pub syndrome-byte : (L : Layout) (u : ℕ → ℕ) (r : ℕ) → ((c : ℕ) → u c < 256) → syndrome L u r < 256
 unfolding syndrome
 syndrome-byte L u r h =
     xorOver-lt 8 (places L) (λ c. only (meets L c r) (u c)) (λ c m. only-lt (meets L c r) (h c) (omega arith))
-
--- c is the only erasure on row r, and v is its weight
-pub record Single (L : Layout) (E : List ℕ) (r v c : ℕ) : Type 0 where
-  pub member : c ∈ E
-  pub inside : c ∈ places L
-  pub meet : Meets L c r
-  pub sole : (d : ℕ) → d ∈ E → Meets L d r → d ≡ c
-  pub weighs : v ≡ weight (L .t) c
-
-one-member : (l : List ℕ) → length l ≡ 1 → (c : ℕ) × (l ≡ c ∷ [])
-one-member [] e = absurd (omega arith)
-one-member (c ∷ []) e = (c, refl)
-one-member (c ∷ (d ∷ l)) e = absurd (omega arith)
-
-sumOver-single : (c : ℕ) (f : ℕ → ℕ) → sumOver (c ∷ []) f ≡ f c
-unfolding sumOver
-sumOver-single c f = add-zero (f c)
-
-pub single : (L : Layout) {E tally : List ℕ} → Counted L E tally → {r : ℕ} → r < 2 * L .t → length (onRow L E r) ≡ 1
-    → (c : ℕ) × Single L E r (getD tally r 0) c
-single L {E} p {r} h e =
-    let o = one-member (onRow L E r) e in
-    let c : ℕ = o .0 in
-    let f = onRow-∈ L E r (subst (λ l. c ∈ l) (sym (o .1)) (here refl)) in (
-      c,
-      record {
-        member = f .0;
-        inside = p .erased .inside c (f .0);
-        meet = f .1;
-        sole = λ d m y. List·Memᴰ·eq-of-singleton (subst (λ l. d ∈ l) (o .1) (∈-onRow L m y));
-        weighs = p .tallies r h ∙ ap (λ l. sumOver l (weight (L .t))) (o .1) ∙ sumOver-single c (weight (L .t));
-      },
-    )
 
 -- a table that is stored to at a and b, the two rows of c; at a the store gives 0
 pub touched-two : (L : Layout) (c : ℕ) (g : ℕ → ℕ) {old new : List ℕ} (a b : ℕ) → a ≢ b → a < length old → b < length old

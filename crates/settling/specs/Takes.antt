@@ -24,8 +24,8 @@ use Rattle.tables.specs.Sizes.{good-∈}
 use Rattle.tables.specs.Bounds.{tally-counts, tally-some}
 use Rattle.tables.specs.StuckLaws.{onRow-some}
 use Rattle.tables.specs.Beside.{Beside, beside-place, beside-sides}
-use Rattle.settling.specs.Queue.{Lowers}
-use Rattle.settling.specs.Settling.{Single, single, row-forces, syndrome-byte, touched-two}
+use Rattle.tables.specs.Singles.{Single, Lowers, single}
+use Rattle.settling.specs.Settling.{row-forces, syndrome-byte, touched-two}
 
 -- two rows that the tables have, the second with an erasure of weight v left
 pub record Rows (sum tally : List ℕ) (a b v : ℕ) : Type 0 where

@@ -7,6 +7,7 @@ pub mod Beside
 pub mod Sweeps
 pub mod Zeros
 pub mod StuckLaws
+pub mod Singles
 pub mod Bounds
 pub mod Counting
 pub mod WordWalk

@@ -1,0 +1,3 @@
+-- The queue of the rows that have one erasure left.
+pub mod Ones
+pub mod Queue

@@ -1,0 +1,2 @@
+-- The rows to start from, by the marks.
+pub mod Starts
