@@ -9,8 +9,8 @@ use Rattle.code.specs.Marks.{markBytes, erasures}
 use Rattle.code.specs.Messages.{Message, Lists, Carries}
 use Rattle.code.specs.Figures as code
 use Rattle.promises.specs.Promises.{Decides}
-use Rattle.promises.specs.declared.Recovery.{Recovery}
-use Rattle.promises.specs.declared.Recovery.the-variants as recovery
+use Rattle.answers.specs.declared.Recovery.{Recovery}
+use Rattle.answers.specs.declared.Recovery.the-variants as recovery
 use Rattle.lines.specs.Lines.{line, recoveredWord, looseWord, crossedWord, sealedWord, symbolWord, figuresWord}
 use Rattle.commands.specs.declared.Command.{Command}
 use Rattle.commands.specs.declared.Command.the-variants.{NewPlan, SetShift, SetSymbol, MarkOne, MarkRun, Recover, Seal, Show, Figures, Straight, Powers, Ruler}

@@ -17,8 +17,8 @@ use Rattle.code.specs.Laws.Carrying.{lists-unique}
 use Rattle.code.specs.Laws.MarksLaws.{erasures-erased}
 use Rattle.promises.specs.Building.{carries-single}
 use Rattle.promises.specs.Once.{decides-once}
-use Rattle.promises.specs.declared.Recovery.{Recovery}
-use Rattle.promises.specs.declared.Recovery.the-variants as recovery
+use Rattle.answers.specs.declared.Recovery.{Recovery}
+use Rattle.answers.specs.declared.Recovery.the-variants as recovery
 use Rattle.lines.specs.Lines.{line, sealedWord, figuresWord}
 use Rattle.commands.specs.declared.Command.{Command}
 use Rattle.commands.specs.declared.Command.the-variants.{NewPlan, SetShift, SetSymbol, MarkOne, MarkRun, Recover, Seal, Show, Figures, Straight, Powers, Ruler}

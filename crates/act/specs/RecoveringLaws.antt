@@ -7,8 +7,8 @@ use lib.ListN.{length, take, replicate}
 use Rattle.plan.specs.Plans.{layoutOf}
 use Rattle.code.specs.Marks.{markBytes, erasures}
 use Rattle.promises.specs.Promises.{Decides}
-use Rattle.promises.specs.declared.Recovery.{Recovery}
-use Rattle.promises.specs.declared.Recovery.the-variants.{Recovered, Crossed, Loose, Refused}
+use Rattle.answers.specs.declared.Recovery.{Recovery}
+use Rattle.answers.specs.declared.Recovery.the-variants.{Recovered, Crossed, Loose, Refused}
 use Rattle.lines.specs.Lines.{line, recoveredWord, looseWord, crossedWord}
 use Rattle.state.specs.State.{State, withBlock}
 use Rattle.act.specs.Meaning.{Recovering}

@@ -24,12 +24,12 @@ use Rattle.refusals.specs.declared.Check.the-variants.{Pass}
 use Rattle.promises.specs.Promises.{Decides, Recovers, Encodes, messageLent}
 use Rattle.promises.specs.Building.{map-bytes, clear-spare, recover-passes}
 use Rattle.promises.specs.Numbers.{encode-always}
-use Rattle.promises.specs.Answers.{recoveryNumber, recoveryCount}
+use Rattle.answers.specs.Answers.{recoveryNumber, recoveryCount}
 use Rattle.refusals.specs.Refusals.{numberOf}
 use Rattle.refusals.specs.declared.Refusal.the-variants as refusal
-use Rattle.promises.specs.declared.Recovery.{Recovery}
-use Rattle.promises.specs.declared.Recovery.the-variants as recovery
-use Rattle.promises.specs.declared.Encoding.{Encoding}
+use Rattle.answers.specs.declared.Recovery.{Recovery}
+use Rattle.answers.specs.declared.Recovery.the-variants as recovery
+use Rattle.answers.specs.declared.Encoding.{Encoding}
 use Rattle.lines.specs.Lines.{line, recoveredWord, looseWord, crossedWord}
 use Rattle.state.specs.State.{withBlock}
 use Rattle.bits.specs.MarkedLaws.{no-marks-no-spare}

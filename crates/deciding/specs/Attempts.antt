@@ -38,8 +38,8 @@ use Rattle.calls.specs.CallsLaws.{pass-good, pass-spare}
 use Rattle.refusals.specs.declared.Check.the-variants.{Pass}
 use Rattle.promises.specs.Promises.{Decides, Recovers, recoverLent}
 use Rattle.promises.specs.Building.{decides-recovered, recovers-passed, recover-lengths}
-use Rattle.promises.specs.declared.Recovery.{Recovery}
-use Rattle.promises.specs.declared.Recovery.the-variants.{Recovered}
+use Rattle.answers.specs.declared.Recovery.{Recovery}
+use Rattle.answers.specs.declared.Recovery.the-variants.{Recovered}
 use Rattle.tables.specs.Zeros.{Zeros, zeros-of, zeros-room, zeros-part}
 use Rattle.whole.specs.Whole.{Summed, Intact}
 use Rattle.explaining.specs.Explains.{Explains}

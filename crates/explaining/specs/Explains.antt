@@ -28,8 +28,8 @@ use Rattle.components.specs.declared.sums.Rows.the-variants as rows
 use Rattle.cycle.specs.Shows as cycle
 use Rattle.promises.specs.Promises.{Decides}
 use Rattle.promises.specs.Building.{decides-loose, decides-crossed}
-use Rattle.promises.specs.declared.Recovery.{Recovery}
-use Rattle.promises.specs.declared.Recovery.the-variants.{Crossed, Loose}
+use Rattle.answers.specs.declared.Recovery.{Recovery}
+use Rattle.answers.specs.declared.Recovery.the-variants.{Crossed, Loose}
 
 -- the answer is right for every block v that with some symbols at the erasures has these sums, if no codeword agrees with it where the erasures are a forest
 pub record Explains (L : Layout) (E sum : List ℕ) (r : Recovery) (w' : List ℕ) : Type 0 where

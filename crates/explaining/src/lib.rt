@@ -10,12 +10,12 @@ ghost use Rattle.components.specs.Walks.{Closed};
 ghost use Rattle.cycle.specs.Shows.{Room};
 ghost use Rattle.tables.specs.Scan.{Lent};
 ghost use Rattle.explaining.specs.Explains.{Explains, Loosens};
+use answers::Recovery;
 use components::sums::Rows;
 use components::sums::crossed;
 use components::walk::Closing;
 use components::walk::labels;
 use cycle::show;
-use promises::Recovery;
 
 // The first component that does not add up; where all do, a cycle. The labels and the totals take the room of the places and the values.
 pub fn explain(

@@ -10,11 +10,11 @@ use Rattle.plan.specs.Plans.{layoutOf, planCheck}
 use Rattle.plan.specs.declared.Plan.{Plan}
 use Rattle.plan.specs.declared.Made.{Made as PlanMade}
 use Rattle.code.specs.Figures.{Figures}
-use Rattle.promises.specs.Answers.{recoveryNumber, recoveryCount, encodingNumber, readingNumber}
+use Rattle.answers.specs.Answers.{recoveryNumber, recoveryCount, encodingNumber, readingNumber}
 use Rattle.promises.specs.Promises.{Recovers, Encodes, Reads}
-use Rattle.promises.specs.declared.Recovery.{Recovery}
-use Rattle.promises.specs.declared.Encoding.{Encoding}
-use Rattle.promises.specs.declared.Reading.{Reading}
+use Rattle.answers.specs.declared.Recovery.{Recovery}
+use Rattle.answers.specs.declared.Encoding.{Encoding}
+use Rattle.answers.specs.declared.Reading.{Reading}
 use Rattle.numbers.specs.declared.Made.{Made}
 
 -- fumizhaki_plan_of, _straight, _powers, _ruler: the constructor's answer by its number, with its plan; a refusal's plan is all zeros

@@ -18,15 +18,15 @@ use Rattle.calls.specs.CallsLaws.{few-marks, few-none}
 use Rattle.refusals.specs.declared.Refusal.{Refusal}
 use Rattle.refusals.specs.declared.Check.{Check}
 use Rattle.refusals.specs.declared.Check.the-variants.{Pass, Stop}
-use Rattle.promises.specs.Answers.{recoveryNumber, recoveryCount, encodingNumber, readingNumber}
+use Rattle.answers.specs.Answers.{recoveryNumber, recoveryCount, encodingNumber, readingNumber}
 use Rattle.promises.specs.Promises.{Recovers, recoverLent, Encodes, Reads, messageLent}
 use Rattle.promises.specs.Numbers.{encode-always}
-use Rattle.promises.specs.declared.Recovery.{Recovery}
-use Rattle.promises.specs.declared.Recovery.the-variants as recovery
-use Rattle.promises.specs.declared.Encoding.{Encoding}
-use Rattle.promises.specs.declared.Encoding.the-variants as encoding
-use Rattle.promises.specs.declared.Reading.{Reading}
-use Rattle.promises.specs.declared.Reading.the-variants as reading
+use Rattle.answers.specs.declared.Recovery.{Recovery}
+use Rattle.answers.specs.declared.Recovery.the-variants as recovery
+use Rattle.answers.specs.declared.Encoding.{Encoding}
+use Rattle.answers.specs.declared.Encoding.the-variants as encoding
+use Rattle.answers.specs.declared.Reading.{Reading}
+use Rattle.answers.specs.declared.Reading.the-variants as reading
 use Rattle.numbers.specs.Entries.{RecoverOut, EncodeOut, MessageOut}
 use Rattle.numbers.specs.Meanings.{RecoverMeans, EncodeMeans, MessageMeans}
 

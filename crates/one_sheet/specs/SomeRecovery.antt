@@ -19,8 +19,8 @@ use Rattle.code.specs.Laws.CycleLaws.{cycle-mono}
 use Rattle.code.specs.Laws.Paths.{∈-above, above-∈, erased-above}
 use Rattle.promises.specs.Promises.{Decides}
 use Rattle.promises.specs.Building.{decides-recovered, decides-loose, decides-crossed}
-use Rattle.promises.specs.declared.Recovery.{Recovery}
-use Rattle.promises.specs.declared.Recovery.the-variants.{Recovered, Crossed, Loose}
+use Rattle.answers.specs.declared.Recovery.{Recovery}
+use Rattle.answers.specs.declared.Recovery.the-variants.{Recovered, Crossed, Loose}
 use Rattle.bits.specs.Bits.{Marked}
 use Rattle.bits.specs.MarkedLaws.{Bytes, marked-none, marked-both, marked-set, marked-clear}
 

@@ -22,8 +22,8 @@ use Rattle.code.specs.Laws.Carrying.{carried-some}
 use Rattle.code.specs.Laws.MarksLaws.{erasures-erased}
 use Rattle.code.specs.Laws.ParityCount.{messages, message-lists}
 use Rattle.promises.specs.Building.{map-bytes}
-use Rattle.promises.specs.declared.Recovery.{Recovery}
-use Rattle.promises.specs.declared.Recovery.the-variants as recovery
+use Rattle.answers.specs.declared.Recovery.{Recovery}
+use Rattle.answers.specs.declared.Recovery.the-variants as recovery
 use Rattle.commands.specs.Commands.{sizeOf, one, commandOf, parsed}
 use Rattle.commands.specs.declared.Command.{Command}
 use Rattle.commands.specs.declared.Command.the-variants.{NewPlan, SetShift, SetSymbol, MarkOne, MarkRun, Recover, Seal, Show, Figures, Straight, Powers, Ruler}

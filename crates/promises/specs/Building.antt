@@ -36,10 +36,10 @@ use Rattle.calls.specs.declared.Lent.{Lent}
 use Rattle.refusals.specs.declared.Refusal.{Refusal}
 use Rattle.refusals.specs.declared.Check.{Check}
 use Rattle.refusals.specs.declared.Check.the-variants.{Pass, Stop}
-use Rattle.promises.specs.declared.Recovery.{Recovery}
-use Rattle.promises.specs.declared.Recovery.the-variants.{Recovered, Crossed, Loose, Refused}
-use Rattle.promises.specs.declared.Encoding.the-variants as encoding
-use Rattle.promises.specs.declared.Reading.the-variants as reading
+use Rattle.answers.specs.declared.Recovery.{Recovery}
+use Rattle.answers.specs.declared.Recovery.the-variants.{Recovered, Crossed, Loose, Refused}
+use Rattle.answers.specs.declared.Encoding.the-variants as encoding
+use Rattle.answers.specs.declared.Reading.the-variants as reading
 use Rattle.math.specs.Padded.{padded}
 use Rattle.promises.specs.Promises.{Decides, Recovers, recoverLent, Encodes, Reads, messageLent}
 

@@ -1,5 +1,4 @@
 -- What recover, encode and message_of promise, how an answer keeps it, and what follows from it.
-pub mod Answers
 pub mod Promises
 pub mod Building
 pub mod MarksOf

@@ -22,15 +22,15 @@ use Rattle.calls.specs.CallsLaws.{pass-good}
 use Rattle.refusals.specs.declared.Refusal.{Refusal}
 use Rattle.refusals.specs.declared.Refusal.the-variants as refusal
 use Rattle.refusals.specs.declared.Check.the-variants.{Pass}
-use Rattle.promises.specs.Answers.{recoveryNumber, encodingNumber, readingNumber}
+use Rattle.answers.specs.Answers.{recoveryNumber, encodingNumber, readingNumber}
 use Rattle.promises.specs.Promises.{Numbered, Decides, EncodedBy, Encodes, ReadBy, Reads, messageLent}
 use Rattle.promises.specs.Building.{message-lengths}
-use Rattle.promises.specs.declared.Recovery.{Recovery}
-use Rattle.promises.specs.declared.Recovery.the-variants.{Recovered, Crossed, Loose, Refused}
-use Rattle.promises.specs.declared.Encoding.{Encoding}
-use Rattle.promises.specs.declared.Encoding.the-variants as encoding
-use Rattle.promises.specs.declared.Reading.{Reading}
-use Rattle.promises.specs.declared.Reading.the-variants as reading
+use Rattle.answers.specs.declared.Recovery.{Recovery}
+use Rattle.answers.specs.declared.Recovery.the-variants.{Recovered, Crossed, Loose, Refused}
+use Rattle.answers.specs.declared.Encoding.{Encoding}
+use Rattle.answers.specs.declared.Encoding.the-variants as encoding
+use Rattle.answers.specs.declared.Reading.{Reading}
+use Rattle.answers.specs.declared.Reading.the-variants as reading
 
 -- The fields that speak of numbers follow from those that speak of cases.
 

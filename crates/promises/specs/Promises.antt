@@ -23,13 +23,13 @@ use Rattle.refusals.specs.Refusals.{numberOf}
 use Rattle.refusals.specs.declared.Refusal.{Refusal}
 use Rattle.refusals.specs.declared.Refusal.the-variants as refusal
 use Rattle.refusals.specs.declared.Check.the-variants.{Pass, Stop}
-use Rattle.promises.specs.Answers.{recoveryNumber, recoveryCount, encodingNumber, readingNumber}
-use Rattle.promises.specs.declared.Recovery.{Recovery}
-use Rattle.promises.specs.declared.Recovery.the-variants.{Recovered, Crossed, Loose, Refused}
-use Rattle.promises.specs.declared.Encoding.{Encoding}
-use Rattle.promises.specs.declared.Encoding.the-variants as encoding
-use Rattle.promises.specs.declared.Reading.{Reading}
-use Rattle.promises.specs.declared.Reading.the-variants as reading
+use Rattle.answers.specs.Answers.{recoveryNumber, recoveryCount, encodingNumber, readingNumber}
+use Rattle.answers.specs.declared.Recovery.{Recovery}
+use Rattle.answers.specs.declared.Recovery.the-variants.{Recovered, Crossed, Loose, Refused}
+use Rattle.answers.specs.declared.Encoding.{Encoding}
+use Rattle.answers.specs.declared.Encoding.the-variants as encoding
+use Rattle.answers.specs.declared.Reading.{Reading}
+use Rattle.answers.specs.declared.Reading.the-variants as reading
 
 -- 01's number of recover's answer: success is 0, crossed 5, loose 6, each in its case and in no other
 pub record Numbered (L : Layout) (E v : List ℕ) (number : ℕ) : Type 0 where

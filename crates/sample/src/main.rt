@@ -1,7 +1,7 @@
 // The four results of document 01's example, by the library: loose, recovered, a symbol, crossed.
+use answers::Recovery;
 use libc::STDOUT_FILENO;
 use plan::Plan;
-use promises::Recovery;
 
 // A number with a space before it.
 fn number(n: usize) {

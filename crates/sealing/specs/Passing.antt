@@ -23,8 +23,8 @@ use Rattle.refusals.specs.declared.Check.{Check}
 use Rattle.refusals.specs.declared.Check.the-variants.{Pass, Stop}
 use Rattle.promises.specs.Promises.{messageLent, Encodes, Reads}
 use Rattle.promises.specs.Building.{message-lengths, encodes-done, reads-read, reads-crossed}
-use Rattle.promises.specs.declared.Encoding.the-variants as encoding
-use Rattle.promises.specs.declared.Reading.the-variants as reading
+use Rattle.answers.specs.declared.Encoding.the-variants as encoding
+use Rattle.answers.specs.declared.Reading.the-variants as reading
 
 -- the answer is what refuses a call with message d and block v, and with one that passes stand the runs
 pub record Checks (p : Plan) (d v : List ℕ) (k : Check) (runs : List ℕ) : Type 0 where

@@ -18,8 +18,8 @@ use Rattle.sums.specs.SumLaws.{Syndromes}
 use Rattle.slices.specs.Zeros.{allZero, allZero-at}
 use Rattle.promises.specs.Promises.{Decides}
 use Rattle.promises.specs.Building.{decides-recovered}
-use Rattle.promises.specs.declared.Recovery.{Recovery}
-use Rattle.promises.specs.declared.Recovery.the-variants.{Recovered}
+use Rattle.answers.specs.declared.Recovery.{Recovery}
+use Rattle.answers.specs.declared.Recovery.the-variants.{Recovered}
 
 -- the table begins with the block's row sums
 pub record Summed (n t : ℕ) (shifts block sum : List ℕ) : Type 0 where

@@ -7,7 +7,7 @@ ghost use Rattle.tables.specs.Scan.{Lent};
 ghost use Rattle.settling.specs.Fill.{Fillable, filled};
 ghost use Rattle.tables.specs.Zeros.{Zeros};
 ghost use Rattle.whole.specs.Whole.{Summed, Intact};
-use promises::Recovery;
+use answers::Recovery;
 use settling::fill::fill;
 use slices::clear_words;
 use slices::zero_bytes;

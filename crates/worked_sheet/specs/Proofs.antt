@@ -18,8 +18,8 @@ use Rattle.code.specs.Marks.{mark, markBytes, erasures}
 use Rattle.code.specs.Laws.MarksLaws.{erasures-erased}
 use Rattle.promises.specs.Promises.{Decides}
 use Rattle.promises.specs.Building.{decides-recovered, decides-loose, decides-crossed}
-use Rattle.promises.specs.declared.Recovery.{Recovery}
-use Rattle.promises.specs.declared.Recovery.the-variants as recovery
+use Rattle.answers.specs.declared.Recovery.{Recovery}
+use Rattle.answers.specs.declared.Recovery.the-variants as recovery
 use Rattle.commands.specs.Commands.{sizeOf, commandOf, parsed}
 use Rattle.commands.specs.declared.Command.the-variants.{NewPlan, SetShift, SetSymbol, MarkOne, Recover, Show}
 use Rattle.pieces.specs.Pieces.{fields, decimal, widthFrom}
