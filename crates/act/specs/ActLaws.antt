@@ -1,5 +1,5 @@
 -- How each command keeps its meaning: what its function did to the buffers, said of the state.
--- Main definition: Makes. Main results: blank-makes, straight-makes, powers-makes, ruler-makes, made-good, made-acts, shifted, symbol-set, one-marked, run-marked, shown.
+-- Main results: blank-makes, straight-makes, powers-makes, ruler-makes, makes-by, made-acts, shifted, symbol-set, one-marked, run-marked, shown.
 use mathlib.Core.Path.{_≡_, refl, sym, _∙_, ap, subst}
 use mathlib.Core.Bool.{true}
 use mathlib.Core.List.{List, [], _∷_}
@@ -21,40 +21,36 @@ use Rattle.bits.specs.Bits.{Marked}
 use Rattle.state.specs.Refusing.{refusalOf}
 use Rattle.bits.specs.MarkedLaws.{Bytes, marked-no-spare}
 use Rattle.act.specs.Meaning.{Means, Marking}
-use Rattle.act.specs.Acts.{stateOf, Kept, Rest, Acts, blockLength}
+use Rattle.act.specs.Acts.{stateOf, Kept, Rest, Makes, Acts, blockLength}
 use Rattle.act.specs.StateLaws.{holding, marked-take, marked-rest}
 use Rattle.act.specs.declared.Held.{Held}
 
 -- ---- new plans
 
--- a command that makes a plan: its meaning is that plan, fresh; where it is not refused the plan is good
-pub record Makes (c : Command) (x : Made) : Type 0 where
-  pub means : (s s' : State) → s' ≡ fresh (x .plan) → Means c s s' []
-  pub good : (s : State) → refusalOf s c ≡ Pass → planCheck (x .plan) ≡ Pass
-
 pub blank-makes : (n t : ℕ) → Makes (NewPlan n t) (blankOf n t)
 unfolding Means refusalOf
-blank-makes n t = record { means = λ s s' e. (e, refl); good = λ s e. blank-good n t e }
+blank-makes n t = record { refusal = λ s. refl; means = λ s s' e. (e, refl); good = blank-good n t }
 
 pub straight-makes : (n t : ℕ) → Makes (Straight n t) (straightOf n t)
 unfolding Means refusalOf
-straight-makes n t = record { means = λ s s' e. (e, refl); good = λ s e. straight-good n t e }
+straight-makes n t = record { refusal = λ s. refl; means = λ s s' e. (e, refl); good = straight-good n t }
 
 pub powers-makes : (n t q : ℕ) → Makes (Powers n t q) (powersOf n t q)
 unfolding Means refusalOf
-powers-makes n t q = record { means = λ s s' e. (e, refl); good = λ s e. powers-good n t q e }
+powers-makes n t q = record { refusal = λ s. refl; means = λ s s' e. (e, refl); good = powers-good n t q }
 
 pub ruler-makes : (n : ℕ) → Makes (Ruler n) (rulerOf n)
 unfolding Means refusalOf
-ruler-makes n = record { means = λ s s' e. (e, refl); good = λ s e. ruler-good n e }
+ruler-makes n = record { refusal = λ s. refl; means = λ s s' e. (e, refl); good = ruler-good n }
 
--- the same of the answer that has the plan, and the plan begun
-module _ {c : Command} {x a : Made} (k : Makes c x) (e : a ≡ x) where
-  pub made-good : (s : State) → refusalOf s c ≡ Pass → planCheck (a .plan) ≡ Pass
-  made-good s q = subst (λ (y : Made). planCheck (y .plan) ≡ Pass) (sym e) (k .good s q)
+-- the same of the command and the answer at hand
+pub makes-by : {c k : Command} {a x : Made} → c ≡ k → a ≡ x → Makes k x → Makes c a
+makes-by {c} {k} {a} {x} e f m = subst (λ (y : Command). Makes y a) (sym e) (subst (Makes k) (sym f) m)
 
-  pub made-acts : (h : Held) {v m v' m' : List ℕ} {r : Held} → (stateOf r v' m' ≡ fresh (a .plan)) × Kept r v' m' × Rest r v m v' m' → Acts c h v m [] r v' m'
-  made-acts h b = record { means = k .means _ _ (b .0 ∙ ap (λ (y : Made). fresh (y .plan)) e); kept = b .1; rest = b .2 }
+-- the plan begun
+pub made-acts : {c : Command} {x : Made} → Makes c x → (h : Held) {v m v' m' : List ℕ} {r : Held} →
+    (stateOf r v' m' ≡ fresh (x .plan)) × Kept r v' m' × Rest r v m v' m' → Acts c h v m [] r v' m'
+made-acts k h b = record { means = k .means _ _ (b .0); kept = b .1; rest = b .2 }
 
 -- ---- shifts
 

@@ -58,8 +58,8 @@ recovering-stands {s} {s'} k planned r = go (r .answer) refl
 
 -- a command that is not refused keeps a state standing
 pub means-stands : {s s' : State} (text : List ℕ) → Standing s → (c : Command) → refusalOf s c ≡ Pass → Means c s s' text → Standing s'
-unfolding Means withPlan
-means-stands {s} text k (NewPlan n t) e m = fresh-stands (blankOf n t .plan) (blank-makes n t .good s e) (m .0)
+unfolding Means withPlan refusalOf
+means-stands {s} text k (NewPlan n t) e m = fresh-stands (blankOf n t .plan) (blank-makes n t .good e) (m .0)
 means-stands {s} text k (SetShift j p) e m = let h = shift-inside s j p e in rw (m .0) (record { good = λ _. shift-good (s .plan) j p (k .good (h .0)) (h .2) })
 means-stands {s} text k (SetSymbol c v) e m = block-stands _ _ k (place-inside s c v e .0) (m .0 .state)
 means-stands {s} text k (MarkOne c) e m = block-stands _ _ k (mark-inside s c e .0) (m .0 .state)
@@ -68,9 +68,9 @@ means-stands {s} text k Recover e m = recovering-stands k (recover-planned s e) 
 means-stands {s} text k Seal e m = block-stands _ _ k (seal-planned s e) (m .state)
 means-stands {s} text k (Show c) e m = same-stands k (m .0)
 means-stands {s} text k Figures e m = same-stands k (m .state)
-means-stands {s} text k (Straight n t) e m = fresh-stands (straightOf n t .plan) (straight-makes n t .good s e) (m .0)
-means-stands {s} text k (Powers n t q) e m = fresh-stands (powersOf n t q .plan) (powers-makes n t q .good s e) (m .0)
-means-stands {s} text k (Ruler n) e m = fresh-stands (rulerOf n .plan) (ruler-makes n .good s e) (m .0)
+means-stands {s} text k (Straight n t) e m = fresh-stands (straightOf n t .plan) (straight-makes n t .good e) (m .0)
+means-stands {s} text k (Powers n t q) e m = fresh-stands (powersOf n t q .plan) (powers-makes n t q .good e) (m .0)
+means-stands {s} text k (Ruler n) e m = fresh-stands (rulerOf n .plan) (ruler-makes n .good e) (m .0)
 
 -- ---- one meaning
 

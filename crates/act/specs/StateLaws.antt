@@ -86,10 +86,6 @@ module _ (p : Plan) (g : planCheck p ≡ Pass) where
   pub bytes-fit : (m : List ℕ) → length m ≡ marksLength → (p .n * p .t + 7) / 8 ≤ length m
   bytes-fit m e = omega (arith, bytes-most)
 
--- no plan
-abbrev pub unheld : Held
-unheld = record { planned = false; plan = record { n = 0; t = 0; shifts = [] } }
-
 -- ---- parts of a buffer
 
 pub front-long : (k : ℕ) (v : List ℕ) → k ≤ length v → k ≡ length (take k v)

@@ -3,21 +3,35 @@ ghost use mathlib.Core.Path.{_≡_};
 ghost use mathlib.Core.Bool.{true};
 ghost use mathlib.Core.List.{List, []};
 ghost use Prim.Native.Nat.{ℕ};
-ghost use lib.ListN.{length, replicate};
-ghost use Rattle.bounds.specs.Bounds.{sizeFits};
-ghost use Rattle.plan.specs.Plans.{made, planCheck};
+ghost use lib.ListN.{length};
+ghost use Rattle.plan.specs.Plans.{planCheck};
 ghost use Rattle.refusals.specs.declared.Check.the-variants as check;
 ghost use Rattle.commands.specs.declared.Command.the-variants as commands;
 ghost use Rattle.state.specs.State.{fresh};
-ghost use Rattle.state.specs.RefusingLaws.{bare};
-ghost use Rattle.state.specs.Refusing.{refusalOf};
-ghost use Rattle.act.specs.Acts.{blockLength, marksLength, stateOf, Kept, Rest, Acts};
+ghost use Rattle.state.specs.Refusing.{makesPlan, refusalOf};
+ghost use Rattle.act.specs.Acts.{blockLength, marksLength, stateOf, Kept, Rest, Makes, Acts};
 use crate::Held;
+use commands::Command;
+use plan::Made;
 use plan::Plan;
 use slices::clear_bytes;
 
+// The plan that a command makes, or what refuses it.
+pub fn made(command: Command) -> Made
+    requires { ⌜ makesPlan command ≡ true ⌝ }
+    ensures { λ r. ⌜ Makes command r ⌝ }
+{
+    match command {
+        Command::NewPlan { n, t } => Plan::blank(n as usize, t as usize),
+        Command::Straight { n, t } => Plan::straight(n as usize, t as usize),
+        Command::Powers { n, t, q } => Plan::powers(n as usize, t as usize, q as usize),
+        Command::Ruler { n } => Plan::ruler(n as usize),
+        _ => Plan::blank(0, 0),
+    }
+}
+
 // The state of a new plan: symbols 0, no marks.
-fn begin(plan: Plan, block: &mut [u8], marks: &mut [u8]) -> Held
+pub fn begin(plan: Plan, block: &mut [u8], marks: &mut [u8]) -> Held
     requires { ⌜ (planCheck plan ≡ check.Pass) × (length (now block) ≡ blockLength) × (length (now marks) ≡ marksLength) ⌝ }
     ensures { λ r. ⌜ (stateOf r (now (block .exit)) (now (marks .exit)) ≡ fresh plan) × Kept r (now (block .exit)) (now (marks .exit)) × Rest r (now (block .entry)) (now (marks .entry)) (now (block .exit)) (now (marks .exit)) ⌝ }
 {
@@ -29,38 +43,6 @@ fn begin(plan: Plan, block: &mut [u8], marks: &mut [u8]) -> Held
         planned: true,
         plan,
     }
-}
-
-pub fn new_plan(n: u8, t: u16, block: &mut [u8], marks: &mut [u8]) -> Held
-    requires { ⌜ (length (now block) ≡ blockLength) × (length (now marks) ≡ marksLength) × ((h : Held) → refusalOf (stateOf h (now block) (now marks)) (commands.NewPlan n t) ≡ check.Pass) ⌝ }
-    ensures { λ r. ⌜ ((h : Held) → Acts (commands.NewPlan n t) h (now (block .entry)) (now (marks .entry)) [] r (now (block .exit)) (now (marks .exit))) ⌝ }
-{
-    let made = Plan::blank(n as usize, t as usize);
-    begin(made.plan, block, marks)
-}
-
-pub fn straight(n: u8, t: u16, block: &mut [u8], marks: &mut [u8]) -> Held
-    requires { ⌜ (length (now block) ≡ blockLength) × (length (now marks) ≡ marksLength) × ((h : Held) → refusalOf (stateOf h (now block) (now marks)) (commands.Straight n t) ≡ check.Pass) ⌝ }
-    ensures { λ r. ⌜ ((h : Held) → Acts (commands.Straight n t) h (now (block .entry)) (now (marks .entry)) [] r (now (block .exit)) (now (marks .exit))) ⌝ }
-{
-    let made = Plan::straight(n as usize, t as usize);
-    begin(made.plan, block, marks)
-}
-
-pub fn powers(n: u8, t: u16, q: u16, block: &mut [u8], marks: &mut [u8]) -> Held
-    requires { ⌜ (length (now block) ≡ blockLength) × (length (now marks) ≡ marksLength) × ((h : Held) → refusalOf (stateOf h (now block) (now marks)) (commands.Powers n t q) ≡ check.Pass) ⌝ }
-    ensures { λ r. ⌜ ((h : Held) → Acts (commands.Powers n t q) h (now (block .entry)) (now (marks .entry)) [] r (now (block .exit)) (now (marks .exit))) ⌝ }
-{
-    let made = Plan::powers(n as usize, t as usize, q as usize);
-    begin(made.plan, block, marks)
-}
-
-pub fn ruler(n: u8, block: &mut [u8], marks: &mut [u8]) -> Held
-    requires { ⌜ (length (now block) ≡ blockLength) × (length (now marks) ≡ marksLength) × ((h : Held) → refusalOf (stateOf h (now block) (now marks)) (commands.Ruler n) ≡ check.Pass) ⌝ }
-    ensures { λ r. ⌜ ((h : Held) → Acts (commands.Ruler n) h (now (block .entry)) (now (marks .entry)) [] r (now (block .exit)) (now (marks .exit))) ⌝ }
-{
-    let made = Plan::ruler(n as usize);
-    begin(made.plan, block, marks)
 }
 
 // The block and the marks stay as they are.

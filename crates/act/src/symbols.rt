@@ -44,5 +44,5 @@ pub fn show(held: Held, block: &[u8], line: &mut [u8], c: u16) -> usize
     ensures { λ r. ⌜ ((m : List ℕ) → Kept held (now (block .entry)) m → Acts (commands.Show c) held (now (block .entry)) m (take r (now (line .exit))) held (now (block .entry)) m) × Wrote (now (line .entry)) (take r (now (line .exit))) (now (line .exit)) r ⌝ }
 {
     let at = c as usize;
-    symbol_line(line, c, block[at])
+    symbol_line(line, 0, c, block[at])
 }

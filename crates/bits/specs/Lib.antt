@@ -6,3 +6,4 @@ pub mod MarkedLaws
 pub mod MarkedOnce
 pub mod Lowest
 pub mod Words
+pub mod Short

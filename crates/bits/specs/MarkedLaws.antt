@@ -1,5 +1,5 @@
 -- Marks set and cleared, one by one and by the byte, and runs of marks put together.
--- Main results: bytes-set, marked-none, marked-one, marked-set, marked-clear, marked-byte, marked-both, marked-next, marked-no-spare, no-marks-no-spare.
+-- Main results: bytes-set, marked-none, marked-one, marked-set, marked-clear, marked-byte, marked-both, marked-next, marked-three, marked-no-spare, no-marks-no-spare.
 use mathlib.Core.Path.{_≡_, refl, sym, _∙_, ap, subst}
 use mathlib.Core.Logic.{inl, inr, ⊎-elim, by-cases, _≢_}
 use mathlib.Core.List.{List}
@@ -70,6 +70,12 @@ marked-next {m} {m'} {m''} {c} {d} {e} {b} g h p q =
     let f : d - c + (e - d) ≡ e - c = omega arith in
     let l : d ≡ c + (d - c) = omega arith in
     subst (λ x. Marked m c x b m'') f (marked-both p q l)
+
+-- a run of three stretches
+pub marked-three : {m m' m'' m''' : List ℕ} {c d e i j k b : ℕ} (n : ℕ) → Marked m c i b m' → Marked m' d j b m'' → Marked m'' e k b m'''
+    → d ≡ c + i → e ≡ d + j → n ≡ i + j + k → Marked m c n b m'''
+marked-three {m} {m'} {m''} {m'''} {c} {d} {e} {i} {j} {k} {b} n p q r f g h =
+    subst (λ x. Marked m c x b m''') (sym h) (marked-both (marked-both p q f) r (omega arith))
 
 -- one bit set or cleared, as the code stores it
 pub marked-set : (m : List ℕ) (c : ℕ) → c / 8 < length m → Bytes m → Marked m c 1 1 (set m (c / 8) (bitOr (getD m (c / 8) 0) (1 * 2 ^ (c % 8) % 2 ^ 8)))

@@ -1,5 +1,5 @@
 -- Marks read eight bytes at a time: the bits of a word are the marks of 64 places.
--- Main results: lanes-begin, lanes-next (one byte more), lanes-eight and lanes-last (a word of marks), word-cut (without the places below one).
+-- Main results: lanes-begin, lanes-next (one byte more), lanes-four (half a word), lanes-eight and lanes-last (a word of marks), word-cut (without the places below one).
 use mathlib.Core.Path.{_≡_, refl, sym, _∙_, ap, ap₂, subst}
 use mathlib.Core.Logic.{by-cases}
 use mathlib.Core.List.{List}
@@ -82,17 +82,23 @@ all-due {marks} {c} {w} s f =
 pub lanes-full : {marks : List ℕ} {i w : ℕ} → Lanes marks i 8 w → Word marks 0 (8 * i) w
 lanes-full L = all-due (L .small) (L .each)
 
--- eight bytes, each raised to its place
+-- four bytes, each raised to its place
+pub lanes-four : (marks : List ℕ) (i x₀ x₁ x₂ x₃ : ℕ) → ((b : ℕ) → getD marks b 0 < 256) → x₀ ≡ getD marks i 0 * 2 ^ 0 → x₁ ≡ getD marks (i + 1) 0 * 2 ^ 8
+    → x₂ ≡ getD marks (i + 2) 0 * 2 ^ 16 → x₃ ≡ getD marks (i + 3) 0 * 2 ^ 24 → Lanes marks i 4 (bitOr (bitOr (bitOr x₀ x₁) x₂) x₃)
+lanes-four marks i x₀ x₁ x₂ x₃ s e₀ e₁ e₂ e₃ =
+    let L₁ : Lanes marks i 1 x₀ = lanes-more x₀ x₀ (lanes-none marks i) (s (i + 0)) (let q : i + 0 ≡ i = omega arith in rw q e₀) (sym (or-zero-l x₀)) in
+    let L₂ = lanes-more _ x₁ L₁ (s (i + 1)) e₁ refl in
+    let L₃ = lanes-more _ x₂ L₂ (s (i + 2)) e₂ refl in
+    lanes-more _ x₃ L₃ (s (i + 3)) e₃ refl
+
+-- eight bytes
 pub lanes-eight : (marks : List ℕ) (i x₀ x₁ x₂ x₃ x₄ x₅ x₆ x₇ : ℕ) → ((b : ℕ) → getD marks b 0 < 256) → x₀ ≡ getD marks i 0 * 2 ^ 0
     → x₁ ≡ getD marks (i + 1) 0 * 2 ^ 8 → x₂ ≡ getD marks (i + 2) 0 * 2 ^ 16 → x₃ ≡ getD marks (i + 3) 0 * 2 ^ 24
     → x₄ ≡ getD marks (i + 4) 0 * 2 ^ 32 → x₅ ≡ getD marks (i + 5) 0 * 2 ^ 40 → x₆ ≡ getD marks (i + 6) 0 * 2 ^ 48
     → x₇ ≡ getD marks (i + 7) 0 * 2 ^ 56
     → Word marks 0 (8 * i) (bitOr (bitOr (bitOr (bitOr (bitOr (bitOr (bitOr x₀ x₁) x₂) x₃) x₄) x₅) x₆) x₇)
 lanes-eight marks i x₀ x₁ x₂ x₃ x₄ x₅ x₆ x₇ s e₀ e₁ e₂ e₃ e₄ e₅ e₆ e₇ =
-    let L₁ : Lanes marks i 1 x₀ = lanes-more x₀ x₀ (lanes-none marks i) (s (i + 0)) (let q : i + 0 ≡ i = omega arith in rw q e₀) (sym (or-zero-l x₀)) in
-    let L₂ = lanes-more _ x₁ L₁ (s (i + 1)) e₁ refl in
-    let L₃ = lanes-more _ x₂ L₂ (s (i + 2)) e₂ refl in
-    let L₄ = lanes-more _ x₃ L₃ (s (i + 3)) e₃ refl in
+    let L₄ = lanes-four marks i x₀ x₁ x₂ x₃ s e₀ e₁ e₂ e₃ in
     let L₅ = lanes-more _ x₄ L₄ (s (i + 4)) e₄ refl in
     let L₆ = lanes-more _ x₅ L₅ (s (i + 5)) e₅ refl in
     let L₇ = lanes-more _ x₆ L₆ (s (i + 6)) e₆ refl in

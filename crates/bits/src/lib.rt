@@ -1,5 +1,5 @@
-// The mark bits of a buffer, over any stretch of places: counted, and tested that none is set. Single places and runs: marks; words of 64: words.
-// Public for the crates above only.
+// The mark bits of a buffer, over any stretch of places: counted, and tested that none is set.
+// Single places and runs: marks; a run set by one word: short; words of 64: words. Public for the crates above only.
 ghost use mathlib.Core.Path.{_≡_};
 ghost use Prim.Native.Nat.{_+_, _*_, _/_, _%_, _^_, _≤_, _<_};
 ghost use lib.Count.{ones};
@@ -11,6 +11,7 @@ ghost use Rattle.bits.specs.Stretches.{Cuts};
 use slices::zero_bytes;
 
 pub mod marks;
+pub mod short;
 pub mod words;
 
 // The number of marked places among the k from a on. That k is below 2^63 is only for the sum.

@@ -4,6 +4,7 @@ ghost use Prim.Native.Nat.{_+_, _-_, _*_, _/_, _^_, _≤_, _<_};
 ghost use lib.ListN.{length};
 ghost use Rattle.code.specs.Marks.{mark};
 ghost use Rattle.bits.specs.Bits.{Marked};
+use crate::short::mark_short;
 use plan::Place;
 
 // The bit of place c.
@@ -30,12 +31,20 @@ pub fn clear_mark(marks: &mut [u8], c: Place)
     put_bit(marks, c.0 as usize, 0);
 }
 
-// m places from c on are marked.
+// m places from c on are marked. Short runs come in any length at any place: by one word they cost no wrong guess of a branch.
 pub fn mark_run(marks: &mut [u8], c: Place, m: u16)
     requires { ⌜ c .0 + m ≤ 8 * length (now marks) ⌝ }
     ensures { λ _. ⌜ Marked (now (marks .entry)) (c .0) m 1 (now (marks .exit)) ⌝ }
 {
-    put_run(marks, c.0 as usize, m as usize, 1);
+    if marks.len() < 4 {
+        put_run(marks, c.0 as usize, m as usize, 1);
+        return;
+    }
+    if 25 < m {
+        mark_long(marks, c.0 as usize, m as usize);
+        return;
+    }
+    mark_short(marks, c.0 as usize, m as usize);
 }
 
 // The marks of m places from c on are cleared.
@@ -44,6 +53,19 @@ pub fn clear_run(marks: &mut [u8], c: Place, m: u16)
     ensures { λ _. ⌜ Marked (now (marks .entry)) (c .0) m 0 (now (marks .exit)) ⌝ }
 {
     put_run(marks, c.0 as usize, m as usize, 0);
+}
+
+// m places from place `start` on are marked: those up to a whole byte and those behind the last one by a word each.
+fn mark_long(marks: &mut [u8], start: usize, m: usize)
+    requires { ⌜ (25 < m) × (start + m ≤ 8 * length (now marks)) × (start + m < 2 ^ 64) ⌝ }
+    ensures { λ _. ⌜ Marked (now (marks .entry)) start m 1 (now (marks .exit)) ⌝ }
+{
+    let first = (8 - start % 8) % 8;
+    let last = (start + m) % 8;
+    let whole = m - first - last;
+    mark_short(marks, start, first);
+    put_run(marks, start + first, whole, 1);
+    mark_short(marks, start + first + whole, last);
 }
 
 // m places from place `start` on take this bit.

@@ -3,7 +3,7 @@ ghost use mathlib.Core.Path.{_≡_};
 ghost use Prim.Native.Nat.{_+_, _*_, _/_, _^_, _≤_, _<_};
 ghost use lib.ListN.{length, getD};
 ghost use Rattle.bounds.specs.Bounds.{maxPlaces};
-ghost use Rattle.bits.specs.Words.{Clear, Word};
+ghost use Rattle.bits.specs.Words.{Clear, Lanes, Word};
 use plan::Place;
 
 // Byte i of the marks, raised by k bits.
@@ -12,6 +12,14 @@ fn lane(marks: &[u8], i: usize, k: u32) -> u64
     ensures { λ r. ⌜ r ≡ getD (now (marks .entry)) i 0 * 2 ^ k ⌝ }
 {
     (marks[i] as u64) << k
+}
+
+// Four bytes from byte i on: one load.
+pub fn four_bytes(marks: &[u8], i: usize) -> u64
+    requires { ⌜ i + 4 ≤ length (now marks) ⌝ }
+    ensures { λ r. ⌜ Lanes (now (marks .entry)) i 4 r ⌝ }
+{
+    lane(marks, i, 0) | lane(marks, i + 1, 8) | lane(marks, i + 2, 16) | lane(marks, i + 3, 24)
 }
 
 // Eight bytes from byte i on: one load.

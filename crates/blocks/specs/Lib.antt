@@ -1,5 +1,4 @@
 -- Commands on the whole block: the block and marks of a plan's lengths, and the laws of each command.
 pub mod Wholes
 pub mod BlockLaws
-pub mod Fronts
 pub mod RecoverLaws

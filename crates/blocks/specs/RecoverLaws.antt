@@ -1,45 +1,40 @@
--- What counting, encoding and recovering say on buffers of the plan's lengths: their calls pass.
--- Main results: count-most, marked-is, carried; loose-within, crossed-within; on-recovered, on-loose, on-crossed; by-success, by-loose, by-crossed.
-use mathlib.Core.Path.{_≡_, refl, sym, _∙_, ap, subst}
+-- What counting and recovering say on buffers of the plan's lengths: their calls pass.
+-- Main results: zeros-long, marked-is; loose-within, crossed-within; on-recovered, on-loose, on-crossed; by-success, by-loose, by-crossed.
+use mathlib.Core.Path.{_≡_, refl, sym, _∙_, ap}
 use mathlib.Core.Bool.{true}
-use mathlib.Core.List.{List, [], _∷_, map}
-use Prim.Native.Nat.{ℕ, _+_, _-_, _*_, _≤_, _<_, _/_}
+use mathlib.Core.List.{List, [], _∷_}
+use Prim.Native.Nat.{ℕ, _+_, _-_, _*_, _≤_, _/_}
 use native.Mathlib.Omega.{arith}
-use lib.ListN.{length, getD, take, replicate, length-append}
+use lib.ListN.{length, take, replicate, length-append, length-replicate}
+use lib.Seq.{length-take-le}
 use borrow.Author.Tests.{eq-eqb}
 use Rattle.math.specs.Padded.{padded}
 use Rattle.plan.specs.Layout.{layout, messageCount}
-use Rattle.bounds.specs.Bounds.{maxT, maxPlaces}
+use Rattle.bounds.specs.Bounds.{maxT}
 use Rattle.plan.specs.Plans.{layoutOf, planCheck, countOf, countValue}
 use Rattle.plan.specs.PlanLaws.{good-bounds}
 use Rattle.plan.specs.declared.Plan.{Plan}
-use Rattle.code.specs.Codewords.{at}
 use Rattle.code.specs.Marks.{markBytes, NoSpare, erasures}
-use Rattle.code.specs.Messages.{Carries}
-use Rattle.code.specs.Laws.ParityCount.{messages}
-use Rattle.calls.specs.Calls.{checkOf, countLent, countedOf, lengthsFit}
+use Rattle.calls.specs.Calls.{countLent, countedOf, lengthsFit}
 use Rattle.calls.specs.CallsLaws.{passes}
 use Rattle.refusals.specs.declared.Check.{Check}
 use Rattle.refusals.specs.declared.Check.the-variants.{Pass}
-use Rattle.promises.specs.Promises.{Decides, Recovers, Encodes, messageLent}
-use Rattle.promises.specs.Building.{map-bytes, clear-spare, recover-passes}
-use Rattle.promises.specs.Numbers.{encode-always}
+use Rattle.promises.specs.Promises.{Decides, Recovers}
+use Rattle.promises.specs.Building.{clear-spare, recover-passes}
 use Rattle.answers.specs.Answers.{recoveryNumber, recoveryCount}
 use Rattle.refusals.specs.Refusals.{numberOf}
 use Rattle.refusals.specs.declared.Refusal.the-variants as refusal
 use Rattle.answers.specs.declared.Recovery.{Recovery}
 use Rattle.answers.specs.declared.Recovery.the-variants as recovery
-use Rattle.answers.specs.declared.Encoding.{Encoding}
 use Rattle.lines.specs.Lines.{line, recoveredWord, looseWord, crossedWord}
 use Rattle.state.specs.State.{withBlock}
 use Rattle.bits.specs.MarkedLaws.{no-marks-no-spare}
 use Rattle.act.specs.RecoveringLaws.{recovering-by}
 use Rattle.blocks.specs.Wholes.{Whole, Recovered, whole}
 
--- no message is longer than the block buffer
-pub count-most : (p : Plan) → planCheck p ≡ Pass → messageCount (layoutOf p) ≤ maxPlaces
-unfolding messageCount layoutOf layout
-count-most p g = omega (arith, good-bounds p g)
+-- the front part of an array of zeros, lent as the witness
+pub zeros-long : (m k : ℕ) → m ≤ k → m ≡ length (take m (replicate {A = ℕ} k 0))
+zeros-long m k h = sym (length-take-le m (replicate k 0) (omega (arith, length-replicate {A = ℕ} k 0)))
 
 -- ---- the number of marks
 
@@ -54,25 +49,6 @@ marked-is p m good long spare =
 
     first : countValue (countOf Pass (length (erasures (layoutOf p) m))) ≡ length (erasures (layoutOf p) m)
     first = unfold countOf in refl
-
--- ---- encoding
-
--- the message at the message places is encoded, never refused
-pub carried : (p : Plan) (v d : List ℕ) → planCheck p ≡ Pass → length v ≡ p .n * p .t → ((c : ℕ) → getD v c 0 < 256) →
-    d ≡ map (at v) (messages (layoutOf p)) → length d ≡ messageCount (layoutOf p) → (r : Encoding) (v' : List ℕ) → Encodes p d v r v' →
-    Carries (layoutOf p) v' (map (at v) (messages (layoutOf p)))
-carried p v d good long bytes e count r v' enc =
-    subst (Carries (layoutOf p) v') e (enc .encoded-to pass (encode-always p d v enc pass (λ i. rw e (map-bytes v bytes (messages (layoutOf p)) i))))
-  where
-    fits : lengthsFit (p .n) (p .t) (messageCount (layoutOf p)) (messageLent d v) ≡ true
-    fits = unfold lengthsFit messageLent layoutOf layout in
-        simp (eq-eqb (length v) (p .n * p .t) long, eq-eqb (length d) (messageCount (layoutOf p)) count)
-
-    none : NoSpare (layoutOf p) []
-    none = unfold NoSpare in λ c h l. absurd (omega arith)
-
-    pass : checkOf p (messageLent d v) [] ≡ Pass
-    pass = sym (passes p (messageLent d v) [] good fits (clear-spare p [] (omega arith) none))
 
 -- ---- recovering
 

@@ -1,12 +1,12 @@
 -- A command that is known: what does not refuse it, and that it was performed.
--- Main results: refusal-is, new-any, straight-any, powers-any, ruler-any, shift-any; quiet-acts, told-acts.
+-- Main results: refusal-is, shift-any; quiet-acts, told-acts.
 use mathlib.Core.Path.{_≡_, sym, subst}
 use mathlib.Core.List.{List, []}
 use Prim.Native.Nat.{ℕ}
 use lib.ListN.{take}
 use Rattle.refusals.specs.declared.Check.the-variants.{Pass}
 use Rattle.commands.specs.declared.Command.{Command}
-use Rattle.commands.specs.declared.Command.the-variants.{NewPlan, SetShift, Straight, Powers, Ruler}
+use Rattle.commands.specs.declared.Command.the-variants.{SetShift}
 use Rattle.lines.specs.Lines.{Wrote}
 use Rattle.lines.specs.LinesLaws.{wrote-none}
 use Rattle.state.specs.State.{State}
@@ -16,24 +16,6 @@ use Rattle.act.specs.declared.Held.{Held}
 
 pub refusal-is : (s : State) {c k : Command} → c ≡ k → refusalOf s c ≡ Pass → refusalOf s k ≡ Pass
 refusal-is s e r = subst (λ (x : Command). refusalOf s x ≡ Pass) e r
-
--- commands that make a plan do not depend on the state
-module _ (s x : State) where
-  pub new-any : (n t : ℕ) → refusalOf s (NewPlan n t) ≡ Pass → refusalOf x (NewPlan n t) ≡ Pass
-  unfolding refusalOf
-  new-any n t e = e
-
-  pub straight-any : (n t : ℕ) → refusalOf s (Straight n t) ≡ Pass → refusalOf x (Straight n t) ≡ Pass
-  unfolding refusalOf
-  straight-any n t e = e
-
-  pub powers-any : (n t q : ℕ) → refusalOf s (Powers n t q) ≡ Pass → refusalOf x (Powers n t q) ≡ Pass
-  unfolding refusalOf
-  powers-any n t q e = e
-
-  pub ruler-any : (n : ℕ) → refusalOf s (Ruler n) ≡ Pass → refusalOf x (Ruler n) ≡ Pass
-  unfolding refusalOf
-  ruler-any n e = e
 
 -- a shift depends on the plan alone
 pub shift-any : (h : Held) (v m v' m' : List ℕ) (j p : ℕ) → refusalOf (stateOf h v m) (SetShift j p) ≡ Pass → refusalOf (stateOf h v' m') (SetShift j p) ≡ Pass

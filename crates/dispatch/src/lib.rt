@@ -1,10 +1,11 @@
-// A command that is not refused, performed by the function that is its own.
+// A command that makes no plan and is not refused, performed by the function that is its own.
 // Public for the crate job only: dispatch.
 ghost use mathlib.Core.Path.{_≡_};
+ghost use mathlib.Core.Bool.{false};
 ghost use lib.ListN.{length, take};
 ghost use Rattle.lines.specs.Lines.{lineLength, Wrote};
 ghost use Rattle.refusals.specs.declared.Check.the-variants as check;
-ghost use Rattle.state.specs.Refusing.{refusalOf};
+ghost use Rattle.state.specs.Refusing.{makesPlan, refusalOf};
 ghost use Rattle.act.specs.Acts.{stateOf, Kept, Acts};
 use act::Held;
 use act::plans;
@@ -24,14 +25,10 @@ pub fn dispatch(
     line: &mut [u8],
     command: Command,
 ) -> Done
-    requires { ⌜ Kept held (now block) (now marks) × (length (now line) ≡ lineLength) × (refusalOf (stateOf held (now block) (now marks)) command ≡ check.Pass) ⌝ }
+    requires { ⌜ Kept held (now block) (now marks) × (length (now line) ≡ lineLength) × (refusalOf (stateOf held (now block) (now marks)) command ≡ check.Pass) × (makesPlan command ≡ false) ⌝ }
     ensures { λ r. ⌜ Acts command held (now (block .entry)) (now (marks .entry)) (take (r .count) (now (line .exit))) (r .held) (now (block .exit)) (now (marks .exit)) × Wrote (now (line .entry)) (take (r .count) (now (line .exit))) (now (line .exit)) (r .count) ⌝ }
 {
     match command {
-        Command::NewPlan { n, t } => Done {
-            held: plans::new_plan(n, t, block, marks),
-            count: 0,
-        },
         Command::SetShift { j, p } => Done {
             held: plans::set_shift(held, j, p),
             count: 0,
@@ -64,17 +61,6 @@ pub fn dispatch(
             held,
             count: blocks::tell_figures(held, line),
         },
-        Command::Straight { n, t } => Done {
-            held: plans::straight(n, t, block, marks),
-            count: 0,
-        },
-        Command::Powers { n, t, q } => Done {
-            held: plans::powers(n, t, q, block, marks),
-            count: 0,
-        },
-        Command::Ruler { n } => Done {
-            held: plans::ruler(n, block, marks),
-            count: 0,
-        },
+        _ => Done { held, count: 0 },
     }
 }

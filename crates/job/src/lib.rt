@@ -1,17 +1,20 @@
 // A job over lent buffers: its next command is read and performed, and its line written.
-// Entry: perform.
+// Entry: perform. take_turn is public for the crates above only.
 ghost use mathlib.Core.Path.{_≡_};
-ghost use mathlib.Core.Bool.{Bool};
+ghost use mathlib.Core.Bool.{Bool, true, false};
 ghost use mathlib.Core.List.{List};
 ghost use Prim.Native.Nat.{ℕ};
 ghost use lib.ListN.{length, getD};
 ghost use Rattle.lines.specs.Lines.{lineLength};
 ghost use Rattle.commands.specs.Commands.{sizeOf, parsed};
 ghost use Rattle.commands.specs.declared.Parsed.the-variants as parsedAs;
+ghost use Rattle.state.specs.Refusing.{makesPlan};
 ghost use Rattle.act.specs.Acts.{Kept};
 ghost use Rattle.turns.specs.Turns.{Turns};
 ghost use Rattle.job.specs.Performs.{Performs};
 use act::Held;
+use act::plans::begin;
+use act::plans::made;
 use commands::Command;
 use commands::Parsed;
 use commands::parse;
@@ -19,6 +22,7 @@ use commands::size_of;
 use dispatch::dispatch;
 use refusals::Check;
 use standing::check_held;
+use state::refusing::makes_plan;
 use state::refusing::refusal;
 use turns::Step;
 use turns::Turn;
@@ -49,7 +53,7 @@ pub fn perform(
 }
 
 // The turn on a state that nothing refuses.
-fn take_turn(
+pub fn take_turn(
     held: Held,
     block: &mut [u8],
     marks: &mut [u8],
@@ -92,6 +96,9 @@ fn go(
     requires { ⌜ Kept held (now block) (now marks) × (length (now line) ≡ lineLength) ⌝ }
     ensures { λ r. ⌜ ((b : List ℕ) (last : Bool) → parsed b ≡ parsedAs.Whole command → size ≡ sizeOf (getD b 0 0) → Turns held (now (block .entry)) (now (marks .entry)) (now (line .entry)) b last offset (r .turn) (r .held) (now (block .exit)) (now (marks .exit)) (now (line .exit))) ⌝ }
 {
+    if makes_plan(command) {
+        return make(held, block, marks, line, command, size, offset);
+    }
     let planned = held.planned;
     let plan = held.plan;
     match refusal(planned, plan, command) {
@@ -105,5 +112,30 @@ fn go(
                 held: after,
             }
         }
+    }
+}
+
+// A command that makes a plan: the plan is made once, and then begun or refused.
+fn make(
+    held: Held,
+    block: &mut [u8],
+    marks: &mut [u8],
+    line: &mut [u8],
+    command: Command,
+    size: usize,
+    offset: u64,
+) -> Step
+    requires { ⌜ Kept held (now block) (now marks) × (length (now line) ≡ lineLength) × (makesPlan command ≡ true) ⌝ }
+    ensures { λ r. ⌜ ((b : List ℕ) (last : Bool) → parsed b ≡ parsedAs.Whole command → size ≡ sizeOf (getD b 0 0) → Turns held (now (block .entry)) (now (marks .entry)) (now (line .entry)) b last offset (r .turn) (r .held) (now (block .exit)) (now (marks .exit)) (now (line .exit))) ⌝ }
+{
+    let made = made(command);
+    let answer = made.answer;
+    let plan = made.plan;
+    match answer {
+        Check::Stop(x) => stop(held, line, x, offset),
+        Check::Pass => Step {
+            turn: Turn::On(size, 0),
+            held: begin(plan, block, marks),
+        },
     }
 }

@@ -1,7 +1,7 @@
 -- The lines of the sheet: a word, then numbers, "fields parted by one space", closed by a line feed.
 use mathlib.Core.Path.{_≡_}
 use mathlib.Core.List.{List, [], _∷_, _++_}
-use Prim.Native.Nat.{ℕ, _+_, _≤_}
+use Prim.Native.Nat.{ℕ, _≤_}
 use lib.ListN.{length, take, drop}
 use Rattle.pieces.specs.Pieces.{fields}
 
@@ -34,9 +34,13 @@ refusedWord = 114 ∷ 101 ∷ 102 ∷ 117 ∷ 115 ∷ 101 ∷ 100 ∷ []
 unfoldable pub endWord : List ℕ
 endWord = 101 ∷ 110 ∷ 100 ∷ []
 
--- the length of the line buffer: no line is longer
+-- no line is longer (line-fits)
 abbrev pub lineLength : ℕ
 lineLength = 24600
+
+-- room for a line with no list: a word of up to 16 letters with two numbers of 64 bits, or `figures` with four
+abbrev pub shortLength : ℕ
+shortLength = 92
 
 -- a line was written: it stands at the front of the buffer, which is as long as before; what stands past the line is kept
 pub record Wrote (buffer text buffer' : List ℕ) (count : ℕ) : Type 0 where

@@ -1,5 +1,5 @@
 -- Lines are put together piece by piece, and each line fits the line buffer.
--- Main results: begun, more, more-list, ended, wrote-front, wrote-none, wrote-empty, line-length, line-fits.
+-- Main results: begun, more, more-list, ended, wrote-at, wrote-front, wrote-none, wrote-empty, line-length, line-fits.
 use mathlib.Core.Path.{_≡_, refl, sym, _∙_, ap, subst}
 use mathlib.Core.List.{List, [], _∷_, _++_, append-nil, append-assoc}
 use Prim.Native.Nat.{ℕ, _+_, _*_, _≤_, _<_}
@@ -12,27 +12,31 @@ use Rattle.lines.specs.Lines.{line, lineLength, Wrote}
 
 -- ---- a line: its word, then its numbers, then its end
 
--- the word and these numbers stand at the front of the buffer
-pub record Begun (l word ns l' : List ℕ) (x : ℕ) : Type 0 where
-  pub so-far : Appends l 0 (word ++ fields ns) l' x
+-- the word and these numbers stand in the buffer from an index on
+pub record Begun (l : List ℕ) (at : ℕ) (word ns l' : List ℕ) (x : ℕ) : Type 0 where
+  pub so-far : Appends l at (word ++ fields ns) l' x
 
-pub begun : {l l' word : List ℕ} {x : ℕ} → Appends l 0 word l' x → Begun l word [] l' x
+pub begun : {l l' word : List ℕ} {at x : ℕ} → Appends l at word l' x → Begun l at word [] l' x
 unfolding fields
-begun {l} {l'} {word} {x} a = record { so-far = rw (append-nil word) a }
+begun {l} {l'} {word} {at} {x} a = record { so-far = rw (append-nil word) a }
 
-pub more-list : (ms : List ℕ) {l l' l'' word ns : List ℕ} {x y : ℕ} → Begun l word ns l' x → Appends l' x (fields ms) l'' y → Begun l word (ns ++ ms) l'' y
-more-list ms {l} {l'} {l''} {word} {ns} {x} {y} a b =
+pub more-list : (ms : List ℕ) {l l' l'' word ns : List ℕ} {at x y : ℕ} → Begun l at word ns l' x → Appends l' x (fields ms) l'' y → Begun l at word (ns ++ ms) l'' y
+more-list ms {l} {l'} {l''} {word} {ns} {at} {x} {y} a b =
     record {
-      so-far = subst (λ t. Appends l 0 t l'' y) (append-assoc word (fields ns) (fields ms) ∙ ap (λ t. word ++ t) (sym (fields-append ns ms)))
+      so-far = subst (λ t. Appends l at t l'' y) (append-assoc word (fields ns) (fields ms) ∙ ap (λ t. word ++ t) (sym (fields-append ns ms)))
           (appends-both (a .so-far) b);
     }
 
-pub more : (n : ℕ) {l l' l'' word ns : List ℕ} {x y : ℕ} → Begun l word ns l' x → Appends l' x (32 ∷ decimal n) l'' y → Begun l word (ns ++ (n ∷ [])) l'' y
-more n {l} {l'} {l''} {word} {ns} {x} {y} a b = more-list (n ∷ []) a (subst (λ t. Appends l' x t l'' y) (sym (fields-one n)) b)
+pub more : (n : ℕ) {l l' l'' word ns : List ℕ} {at x y : ℕ} → Begun l at word ns l' x → Appends l' x (32 ∷ decimal n) l'' y → Begun l at word (ns ++ (n ∷ [])) l'' y
+more n {l} {l'} {l''} {word} {ns} {at} {x} {y} a b = more-list (n ∷ []) a (subst (λ t. Appends l' x t l'' y) (sym (fields-one n)) b)
 
-pub ended : {l l' l'' word ns : List ℕ} {x y : ℕ} → Begun l word ns l' x → Appends l' x (10 ∷ []) l'' y → Wrote l (line word ns) l'' y
+pub ended : {l l' l'' word ns : List ℕ} {at x y : ℕ} → Begun l at word ns l' x → Appends l' x (10 ∷ []) l'' y → Appends l at (line word ns) l'' y
 unfolding line
-ended a b = let both = appends-both (a .so-far) b in record { text-stands = both .text-stands; within = appends-within both; long = both .long; rest = both .rest }
+ended a b = appends-both (a .so-far) b
+
+-- a text put at the front was written
+pub wrote-at : {l l' text : List ℕ} {y : ℕ} → Appends l 0 text l' y → Wrote l text l' y
+wrote-at a = record { text-stands = a .text-stands; within = appends-within a; long = a .long; rest = a .rest }
 
 -- ---- what was written, by the buffer alone
 

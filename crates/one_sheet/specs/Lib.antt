@@ -6,3 +6,4 @@ pub mod ParsedLaws
 pub mod Outcomes
 pub mod SomeFigures
 pub mod SomeRecovery
+pub mod Begins

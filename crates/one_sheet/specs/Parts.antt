@@ -1,14 +1,13 @@
 -- A job read in parts of any size, and what a turn on a part of the bytes says of the whole.
--- Main definitions: joined, Fed, Prefix. Main results: prefix-turns, fed-sheet, sheet-fed, fed-wait, fed-on, fed-stop, fed-last, waits-exactly.
+-- Main definitions: joined, Fed, Prefix. Main results: prefix-turns, fed-sheet, sheet-fed, waits-exactly.
 use mathlib.Core.Path.{_≡_, refl, sym, _∙_, ap, subst}
 use mathlib.Core.Logic.{_⊎_, inl, inr, ⊎-elim, _≢_, _↔_, by-cases}
 use mathlib.Core.Bool.{Bool, true, false}
 use mathlib.Core.List.{List, [], _∷_, _++_, append-assoc, append-nil}
 use Prim.Native.Nat.{ℕ, zero, suc, _+_, _-_, _<_}
 use native.Mathlib.Omega.{arith}
-use lib.ListN.{length, getD, take, drop, replicate, length-append, length-drop, length-replicate, List·getD-append}
+use lib.ListN.{length, getD, drop, replicate, length-append, length-drop, length-replicate, List·getD-append}
 use lib.Seq.{drop-append-le}
-use Rattle.refusals.specs.declared.Refusal.{Refusal}
 use Rattle.refusals.specs.RefusalLaws.{decPass}
 use Rattle.refusals.specs.declared.Check.the-variants.{Pass}
 use Rattle.commands.specs.Commands.{sizeOf, parsed, parsedCheck}
@@ -28,9 +27,9 @@ use Rattle.one_sheet.specs.OneSheet.{Goes, sheet-ends, sheet-unknown, sh
 use Rattle.turns.specs.Turns.{Same, Turns}
 use Rattle.turns.specs.TurnLaws.{on-unknown, on-refused, on-acts}
 use Rattle.turns.specs.declared.Turn.{Turn}
-use Rattle.turns.specs.declared.Turn.the-variants.{Wait, End, Stop, On}
+use Rattle.turns.specs.declared.Turn.the-variants.{Wait}
 use Rattle.one_sheet.specs.ParsedLaws.{zero-one, nothing-empty, whole-size, short-long, parsed-prefix}
-use Rattle.one_sheet.specs.Outcomes.{Outcome, outcome, on-count, end-count, stop-count, never-waits}
+use Rattle.one_sheet.specs.Outcomes.{outcome, never-waits}
 
 first-same : (a b : List ℕ) → 0 < length a → getD (a ++ b) 0 0 ≡ getD a 0 0
 first-same a b h = List·getD-append a b 0 0 h
@@ -153,7 +152,7 @@ feeds (suc n) o s text hand parts less t = feed-step n (feeds n) hand parts less
 pub sheet-fed : {o : ℕ} {s : State} {text : List ℕ} (hand : List ℕ) (parts : List (List ℕ)) → Sheet o s (hand ++ joined parts) text → Fed o s hand parts text
 sheet-fed {o} {s} {text} hand parts t = feeds (suc (length (hand ++ joined parts) + length parts)) o s text hand parts (omega arith) t
 
--- ---- the turns of perform make such a feed
+-- ---- when a turn waits
 
 module _ {h : Held} {v m l hand : List ℕ} {o : ℕ} {turn : Turn} {h' : Held} {v' m' l' : List ℕ} where
   -- a turn waits where no command stands whole at the front
@@ -168,35 +167,6 @@ module _ {h : Held} {v m l hand : List ℕ} {o : ℕ} {turn : Turn} {h' : Held} 
           by-cases (decPass (refusalOf (stateOf h v m) c))
           (λ z. let g = t .goes-on c e z .on in absurd (zero-one (cc)))
           (λ n. let g = t .refused c e n .0 .stopped in absurd (zero-one (cc)))
-
-  pub fed-wait : Turns h v m l hand false o turn h' v' m' l' → turn ≡ Wait → {part : List ℕ} {parts : List (List ℕ)} {text : List ℕ} →
-      Fed o (stateOf h v m) (hand ++ part) parts text → Fed o (stateOf h v m) hand (part ∷ parts) text
-  fed-wait t w {part} {parts} f = more part parts (waits t w) f
-
-  -- a turn that does not wait is the turn on all bytes, of which none come after
-  whole-turn : (last : Bool) → Turns h v m l hand last o turn h' v' m' l' → turn ≢ Wait → Outcome h v m hand o turn h' v' m' l'
-  whole-turn true t n = outcome t
-  whole-turn false t n =
-      ⊎-elim (λ q. absurd (n (q .0))) (λ f. outcome (subst (λ b. Turns h v m l b true o turn h' v' m' l') (append-nil hand) (f [] true))) (prefix-turns t)
-
-  pub fed-stop : Turns h v m l hand false o turn h' v' m' l' → (x : Refusal) (count : ℕ) → turn ≡ Stop x count → (parts : List (List ℕ)) → Fed o (stateOf h v m) hand parts (take count l')
-  fed-stop t x count w parts =
-      ⊎-elim (λ q. let e = q .0 in absurd (zero-one (cc))) (λ f. sheet-fed hand parts (stop-count x count w (outcome (f (joined parts) true)) .1 .sheet)) (prefix-turns t)
-
-  pub fed-on : {last : Bool} → Turns h v m l hand last o turn h' v' m' l' → (used count : ℕ) → turn ≡ On used count → (parts : List (List ℕ)) (rest : List ℕ) →
-      Fed (o + used) (stateOf h' v' m') (drop used hand) parts rest → Fed o (stateOf h v m) hand parts (take count l' ++ rest)
-  fed-on {last} t used count w parts rest f =
-      let g = on-count used count w (whole-turn last t (λ e. zero-one (cc))) .3 in
-      goes-on (stateOf h' v' m') (take count l') rest (g .0) (g .1) (g .2) (g .4 .means) (subst (λ x. Fed (o + x) (stateOf h' v' m') (drop x hand) parts rest) (g .3) f)
-
-  -- the close, when no more parts come
-  pub fed-last : Turns h v m l hand true o turn h' v' m' l' → (count : ℕ) → (turn ≡ End count) ⊎ ((x : Refusal) × (turn ≡ Stop x count)) → Fed o (stateOf h v m) hand [] (take count l')
-  unfolding joined
-  fed-last t count w =
-      let c = ⊎-elim (λ e. end-count count e (outcome t) .1) (λ e. stop-count (e .0) count (e .1) (outcome t) .1) w in
-      sheet-fed hand [] (rw (append-nil hand) (c .sheet))
-
--- ---- when a turn waits
 
 -- the bytes are a proper prefix, the empty one included, of a command with a known first byte
 pub record Prefix (b : List ℕ) : Type 0 where

@@ -35,7 +35,8 @@ use Rattle.bits.specs.Bits.{Marked}
 use Rattle.state.specs.Refusing.{refusalOf}
 use Rattle.bits.specs.MarkedLaws.{Bytes, bytes-set}
 use Rattle.act.specs.Meaning.{Means}
-use Rattle.act.specs.ActLaws.{Makes, blank-makes, straight-makes, powers-makes, ruler-makes}
+use Rattle.act.specs.Acts.{Makes}
+use Rattle.act.specs.ActLaws.{blank-makes, straight-makes, powers-makes, ruler-makes}
 use Rattle.act.specs.MeaningOnce.{Standing, means-stands}
 use Rattle.act.specs.RecoveringLaws.{recoveryLine, recoveryState, recovering-by}
 use Rattle.act.specs.StateLaws.{place-inside, mark-inside, run-inside, shift-inside, recover-planned, seal-planned, figures-planned}
@@ -94,7 +95,7 @@ cleared-ready {s} v k a b = block-ready v _ k a b (length-replicate (markBytes (
 
 -- a plan that is made
 new-some : {s : State} {c : Command} {x : Made} → Makes c x → refusalOf s c ≡ Pass → Some c s
-new-some {s} {c} {x} k e = record { state = fresh (x .plan); text = []; means = k .means s _ refl; ready = fresh-ready (x .plan) (k .good s e) }
+new-some {s} {c} {x} k e = record { state = fresh (x .plan); text = []; means = k .means s _ refl; ready = fresh-ready (x .plan) (k .good (sym (k .refusal s) ∙ e)) }
 
 -- the bits of the plan's places fit its mark bytes
 bits-fit : {s : State} → Sound s → s .plan .n * s .plan .t ≤ 8 * length (s .marks)

@@ -7,12 +7,12 @@ use Prim.Native.Nat.{ℕ, _+_, _-_, _*_, _/_, _≤_, _<_}
 use native.Mathlib.Nat.{suc-mul, mul-le-mul-right}
 use native.Mathlib.Numerals.{add-one}
 use native.Mathlib.Omega.{arith}
-use lib.ListN.{length, getD, take, drop, replicate}
+use lib.ListN.{length, getD, take, drop, replicate, length-map}
 use lib.Seq.{ext-getD, length-take-le}
 use Rattle.math.specs.Members.{_∈_}
 use Rattle.math.specs.MembersLaws.{decIn}
 use Rattle.bounds.specs.Bounds.{maxPlaces}
-use Rattle.plan.specs.Layout.{Layout, Valid, layout, messageCount}
+use Rattle.plan.specs.Layout.{Layout, Valid, layout}
 use Rattle.plan.specs.GoodPlan.{GoodPlan, plan-valid}
 use Rattle.code.specs.Places.{places}
 use Rattle.code.specs.Codewords.{at, Agrees}
@@ -29,9 +29,8 @@ use Rattle.tables.specs.Zeros.{Zeros, zeros-of, zeros-room, zeros-part}
 use Rattle.tables.specs.StuckLaws.{stuck-none}
 use Rattle.settling.specs.Fill.{filled, Fillable, filled-at, filled-out, filled-long}
 use Rattle.peel.specs.Peels.{Peelable, Peels, Peeled}
-use Rattle.runs.specs.Runs.{RunsOf, Spread}
+use Rattle.runs.specs.Runs.{RunsOf}
 use Rattle.runs.specs.Laws.Fronts.{runs-short, parity-offset}
-use Rattle.runs.specs.Laws.Carried.{layout-count}
 
 -- a plan's numbers, its runs, and a block of its length
 pub record Sealable (n t : ℕ) (shifts runs block : List ℕ) : Type 0 where
@@ -198,23 +197,23 @@ map-at : (f g : ℕ → ℕ) {l : List ℕ} {c : ℕ} → map f l ≡ map g l �
 map-at f g e (first q) = ap f q ∙ ap (λ l. getD l 0 0) e ∙ sym (ap g q)
 map-at f g e (later m) = map-at f g (ap (λ l. drop 1 l) e) m
 
--- a codeword that carries the message agrees with the block that holds it
-spread-agrees : (L : Layout) → Valid L → {d v w : List ℕ} → ((c : ℕ) → c < L .n * L .t → c ∈ places L) → Spread L d v → Carries L w d → Agrees L (parities L) v w
-spread-agrees L ok {d} {v} {w} inside s p = record {
+-- a codeword that carries what stands at the message places agrees with the block
+holding-agrees : (L : Layout) → Valid L → {d v w : List ℕ} → ((c : ℕ) → c < L .n * L .t → c ∈ places L) → map (at v) (messages L) ≡ d → Carries L w d → Agrees L (parities L) v w
+holding-agrees L ok {d} {v} {w} inside holds p = record {
   codeword = p .codeword;
   unmarked = λ c h n.
       let e : map (at w) (messages L) ≡ map (at v) (messages L) =
-      ap (map (at w)) (lists-unique (message-lists L ok) (p .message-places)) ∙ sym (p .symbols) ∙ sym (s .carried) in
+      ap (map (at w)) (lists-unique (message-lists L ok) (p .message-places)) ∙ sym (p .symbols) ∙ sym holds in
       map-at (at w) (at v) e
       (⊎-elim (λ q. absurd (n (parity-lists L ok .exact c .1 q))) (λ q. message-lists L ok .exact c .1 q) (parity-or-message L ok c (inside c h)));
 }
 
--- the message spread over the block, and the parity places filled: the block carries the message
-pub sealed : {n t : ℕ} {shifts d v v' : List ℕ} → GoodPlan n t shifts → length d ≡ messageCount (layout n t shifts) → ((i : ℕ) → getD d i 0 < 256) →
-    Spread (layout n t shifts) d v → Settled (layout n t shifts) v v' → Carries (layout n t shifts) v' d
+-- the message stands at its places, whatever stands at the parity places, and these are filled: the block carries the message
+pub sealed : {n t : ℕ} {shifts d v v' : List ℕ} → GoodPlan n t shifts → ((i : ℕ) → getD d i 0 < 256) →
+    map (at v) (messages (layout n t shifts)) ≡ d → Settled (layout n t shifts) v v' → Carries (layout n t shifts) v' d
 unfolding layout
-sealed {n} {t} {shifts} {d} s e byte spread q =
+sealed {n} {t} {shifts} {d} {v} s byte holds q =
     let L = layout n t shifts in
     let ok : Valid L = plan-valid s in
-    let c = carried-some L ok d (e ∙ sym (layout-count n t shifts s)) byte in
-    subst (λ x. Carries L x d) (sym (q .found (c .0) (spread-agrees L ok (λ a h. ∈-good s h) spread (c .1)))) (c .1)
+    let c = carried-some L ok d (ap length (sym holds) ∙ length-map (messages L) (at v)) byte in
+    subst (λ x. Carries L x d) (sym (q .found (c .0) (holding-agrees L ok (λ a h. ∈-good s h) holds (c .1)))) (c .1)

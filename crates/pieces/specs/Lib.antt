@@ -3,3 +3,4 @@ pub mod Pieces
 pub mod DecimalLaws
 pub mod DigitLoops
 pub mod PiecesLaws
+pub mod ShortLaws

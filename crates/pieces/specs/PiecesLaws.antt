@@ -1,5 +1,5 @@
 -- Pieces are put one after the other.
--- Main results: appends-both, appends-byte, appends-number, appends-next, appends-entry, fields-append, fields-one, fields-length.
+-- Main results: appends-both, appends-byte, appends-digits, appends-next, appends-entry, fields-append, fields-one, fields-length.
 use mathlib.Core.Path.{_≡_, refl, sym, _∙_, ap, subst}
 use mathlib.Core.List.{List, [], _∷_, _++_, append-nil, append-assoc}
 use Prim.Native.Nat.{ℕ, suc, _+_, _*_, _≤_, _<_}
@@ -18,7 +18,7 @@ pub appends-none : (l : List ℕ) (at : ℕ) → Appends l at [] l at
 appends-none l at = record { text-stands = sym (append-nil (take at l)); past = sym (add-zero at); long = refl; rest = refl }
 
 -- what is kept from x on is kept from any later index on
-kept-on : (x m : ℕ) (l' l : List ℕ) → drop x l' ≡ drop x l → drop (x + m) l' ≡ drop (x + m) l
+pub kept-on : (x m : ℕ) (l' l : List ℕ) → drop x l' ≡ drop x l → drop (x + m) l' ≡ drop (x + m) l
 kept-on x m l' l e = sym (drop-drop m x l') ∙ ap (drop m) e ∙ drop-drop m x l
 
 pub appends-both : {l l' l'' : List ℕ} {at x y : ℕ} {s t : List ℕ} → Appends l at s l' x → Appends l' x t l'' y → Appends l at (s ++ t) l'' y
@@ -43,18 +43,16 @@ appends-byte l at v h =
       rest = drop-set-lt (at + 1) l at v (omega arith);
     }
 
--- a space, then the k digits
-pub appends-number : (l l' : List ℕ) (at n k : ℕ) → k ≡ widthFrom 20 1 n → at < length l →
-    take (at + 1 + k) l' ≡ take (at + 1) (set l at 32) ++ digits 10 k n → length l' ≡ length (set l at 32) →
-    drop (at + 1 + k) l' ≡ drop (at + 1 + k) (set l at 32) → Appends l at (32 ∷ decimal n) l' (at + 1 + k)
-appends-number l l' at n k e h t long rest =
-    appends-both (appends-byte l at 32 h)
-    (record {
-      text-stands = t ∙ ap (λ x. take (at + 1) (set l at 32) ++ x) (sym (decimal-is n k (sym e)));
-      past = ap (λ x. at + 1 + x) (e ∙ sym (length-decimal-is n));
+-- the k digits
+pub appends-digits : (l l' : List ℕ) (from n k : ℕ) → k ≡ widthFrom 20 1 n → take (from + k) l' ≡ take from l ++ digits 10 k n → length l' ≡ length l →
+    drop (from + k) l' ≡ drop (from + k) l → Appends l from (decimal n) l' (from + k)
+appends-digits l l' from n k e t long rest =
+    record {
+      text-stands = t ∙ ap (λ x. take from l ++ x) (sym (decimal-is n k (sym e)));
+      past = ap (λ x. from + x) (e ∙ sym (length-decimal-is n));
       long = long;
       rest = rest;
-    })
+    }
 
 -- ---- fields
 

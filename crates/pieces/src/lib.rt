@@ -4,8 +4,8 @@ ghost use mathlib.Core.List.{[], _∷_};
 ghost use Prim.Native.Nat.{suc, _+_, _*_, _≤_};
 ghost use lib.ListN.{length, take};
 ghost use Rattle.pieces.specs.Pieces.{decimal, fields, Appends};
-use digits::spell;
-use digits::width;
+use digits::put_long;
+use digits::put_short;
 
 mod digits;
 
@@ -26,11 +26,12 @@ pub fn put_number(line: &mut [u8], at: usize, n: u64) -> usize
     requires { ⌜ at + suc (length (decimal n)) ≤ length (now line) ⌝ }
     ensures { λ r. ⌜ Appends (now (line .entry)) at (32 ∷ decimal n) (now (line .exit)) r ⌝ }
 {
-    let k = width(n);
     line[at] = 32;
     let from = at + 1;
-    spell(line, from, k, n);
-    from + k
+    if n < 100000 {
+        return put_short(line, from, n);
+    }
+    put_long(line, from, n)
 }
 
 // The first k entries of the list, each with a space before it.

@@ -1,46 +1,24 @@
--- The laws of the cursor: what is at hand after bytes are used, after it is carried over, and after more are read behind it.
--- Main results: hand-start, hand-used, hand-carried, read-behind; used-past, used-some; carried-none, carried-some, carried-fits; Moved and its steps.
+-- The laws of the cursor: what is at hand after it is carried over.
+-- Main results: drop-take, hand-carried; carried-none, carried-some; Moved and its steps.
 use mathlib.Core.Path.{_≡_, refl, sym, _∙_, ap}
 use mathlib.Core.Logic.{by-cases}
 use mathlib.Core.List.{List, [], _∷_, _++_}
-use Prim.Native.Nat.{ℕ, zero, suc, _+_, _-_, _%_, _^_, _≤_, _<_, min}
+use Prim.Native.Nat.{ℕ, zero, suc, _+_, _-_, _≤_, _<_, min}
 use native.Mathlib.Numerals.{add-one}
 use native.Mathlib.Decide.{decLe}
 use native.Mathlib.Omega.{arith}
-use lib.ListN.{length, getD, set, take, drop, length-take, length-drop, length-set, length-append, take-append-drop}
-use lib.Seq.{take-all, take-at, take-nil, drop-drop, take-suc, take-suc-set, take-append-add, getD-drop, getD-set-other, ext-getD, length-take-le}
-use Rattle.reading.specs.Cursors.{hand, atStart, usedOf, carriedOf, behind}
+use lib.ListN.{length, getD, set, take, drop, length-take, length-drop, length-set, take-append-drop}
+use lib.Seq.{take-all, take-at, take-nil, take-suc, take-suc-set, getD-drop, getD-set-other, ext-getD, length-take-le}
+use Rattle.reading.specs.Cursors.{hand, carriedOf}
 use Rattle.reading.specs.declared.Cursor.{Cursor}
 
 -- ---- what is at hand
 
-drop-take : (k j : ℕ) (l : List ℕ) → drop k (take j l) ≡ take (j - k) (drop k l)
+pub drop-take : (k j : ℕ) (l : List ℕ) → drop k (take j l) ≡ take (j - k) (drop k l)
 drop-take zero j l = let e : j - 0 ≡ j = omega arith in rw e
 drop-take (suc k) zero l = let e : 0 - suc k ≡ 0 = omega arith in rw e
 drop-take (suc k) (suc j) [] = sym (take-nil (suc j - suc k))
 drop-take (suc k) (suc j) (x ∷ l) = let e : suc j - suc k ≡ j - k = omega arith in drop-take k j l ∙ ap (λ n. take n (drop k l)) (sym e)
-
-pub hand-start : (buffer : List ℕ) → hand atStart buffer ≡ []
-unfolding hand
-hand-start buffer = refl
-
-take-none : (n : ℕ) (l : List ℕ) → n ≡ 0 → take n l ≡ []
-take-none n l e = rw e
-
--- the bytes that are left
-pub hand-used : (c : Cursor) (k : ℕ) (buffer : List ℕ) → hand (usedOf c k) buffer ≡ drop k (hand c buffer)
-unfolding hand usedOf
-hand-used c k buffer =
-    by-cases (decLe (c .at + k) (c .end))
-    (λ h. let e : min (c .at + k) (c .end) ≡ c .at + k = omega arith in
-    let f : c .end - (c .at + k) ≡ c .end - c .at - k = omega arith in
-    rw (e, f) (sym right))
-    (λ n. let e : c .end - min (c .at + k) (c .end) ≡ 0 = omega arith in
-    let f : c .end - c .at - k ≡ 0 = omega arith in
-    take-none _ _ e ∙ sym (right ∙ take-none _ _ f))
-  where
-    right : drop k (take (c .end - c .at) (drop (c .at) buffer)) ≡ take (c .end - c .at - k) (drop (c .at + k) buffer)
-    right = drop-take k (c .end - c .at) (drop (c .at) buffer) ∙ ap (take (c .end - c .at - k)) (drop-drop k (c .at) buffer)
 
 front-is : (h rest : List ℕ) → take (length h - 0) (h ++ rest) ≡ h
 front-is h rest = take-at h rest (length h - 0) (omega arith)
@@ -49,27 +27,6 @@ front-is h rest = take-at h rest (length h - 0) (omega arith)
 pub hand-carried : (c : Cursor) (buffer : List ℕ) → hand (carriedOf c buffer) (hand c buffer ++ drop (length (hand c buffer)) buffer) ≡ hand c buffer
 unfolding hand carriedOf
 hand-carried c buffer = front-is (take (c .end - c .at) (drop (c .at) buffer)) (drop (length (take (c .end - c .at) (drop (c .at) buffer))) buffer)
-
--- bytes that are read behind them follow them
-pub read-behind : (c : Cursor) (buffer part rest : List ℕ) → hand (behind (carriedOf c buffer) (length part)) (hand c buffer ++ (part ++ rest)) ≡ hand c buffer ++ part
-unfolding hand carriedOf behind
-read-behind c buffer part rest = go (take (c .end - c .at) (drop (c .at) buffer))
-  where
-    go : (h : List ℕ) → take (length h + length part - 0) (h ++ (part ++ rest)) ≡ h ++ part
-    go h =
-        let e : length h + length part - 0 ≡ length h + length part = omega arith in
-        rw e (take-append-add h (part ++ rest) (length part) ∙ ap (λ x. h ++ x) (take-at part rest (length part) refl))
-
--- ---- used
-
-module _ (c : Cursor) (k : ℕ) {offset : ℕ} (e : offset ≡ (c .offset + k) % 2 ^ 64) where
-  pub used-past : c .end < c .at + k → record { at = c .end; end = c .end; offset = offset } ≡ usedOf c k
-  unfolding usedOf
-  used-past h = let f : min (c .at + k) (c .end) ≡ c .end = omega arith in rw (e, f)
-
-  pub used-some : c .at + k ≤ c .end → record { at = c .at + k; end = c .end; offset = offset } ≡ usedOf c k
-  unfolding usedOf
-  used-some h = let f : min (c .at + k) (c .end) ≡ c .at + k = omega arith in rw (e, f)
 
 -- ---- carried
 
@@ -103,15 +60,6 @@ carried-some c buffer e f h {buffer'} g = rw (← same, long) (refl, g)
 
     long : length (take (e - c .at) (drop (c .at) buffer)) ≡ e - c .at
     long = length-take-le (e - c .at) (drop (c .at) buffer) (omega (arith, length-drop (c .at) buffer))
-
--- what is carried stands within the buffer
-pub carried-fits : (c : Cursor) (buffer : List ℕ) {r : Cursor} {buffer' : List ℕ} →
-    (r ≡ carriedOf c buffer) × (buffer' ≡ hand c buffer ++ drop (length (hand c buffer)) buffer) → r .end ≤ length buffer'
-carried-fits c buffer {r} {buffer'} e =
-    let long : length buffer' ≡ length (hand c buffer) + length (drop (length (hand c buffer)) buffer) =
-    ap length (e .1) ∙ length-append (hand c buffer) (drop (length (hand c buffer)) buffer) in
-    let end : r .end ≡ length (hand c buffer) = ap (λ (x : Cursor). x .end) (e .0) ∙ carried-end c buffer in
-    omega arith
 
 -- ---- moving to the front
 

@@ -1,7 +1,7 @@
 -- A job read in parts: the bytes at hand in a buffer.
--- Main definitions: hand, atStart, usedOf, carriedOf.
+-- Main definitions: hand, atStart, carriedOf.
 use mathlib.Core.List.{List}
-use Prim.Native.Nat.{ℕ, _+_, _-_, _%_, _^_, min}
+use Prim.Native.Nat.{ℕ, _-_}
 use lib.ListN.{length, take, drop}
 use Rattle.reading.specs.declared.Cursor.{Cursor}
 
@@ -13,15 +13,7 @@ hand c buffer = take (c .end - c .at) (drop (c .at) buffer)
 abbrev pub atStart : Cursor
 atStart = record { at = 0; end = 0; offset = 0 }
 
--- k bytes are used: they are passed, and the offset of the next byte is k higher (in 64 bits)
-unfoldable pub usedOf : Cursor → ℕ → Cursor
-usedOf c k = record { at = min (c .at + k) (c .end); end = c .end; offset = (c .offset + k) % 2 ^ 64 }
-
 -- the bytes at hand stand at the front
 unfoldable pub carriedOf : Cursor → List ℕ → Cursor
 unfolding hand
 carriedOf c buffer = record { at = 0; end = length (hand c buffer); offset = c .offset }
-
--- n bytes were read behind those at hand
-unfoldable pub behind : Cursor → ℕ → Cursor
-behind c n = record { at = c .at; end = c .end + n; offset = c .offset }

@@ -1,10 +1,10 @@
 // A job read in parts: the bytes at hand stand in a buffer, and more are read behind them.
-// Entries: begin, used, carry. A cursor whose bounds pass the buffer or each other has only what stands within them at hand.
+// Entries: begin, carry. A cursor whose bounds pass the buffer or each other has only what stands within them at hand.
 ghost use mathlib.Core.Path.{_≡_};
 ghost use mathlib.Core.List.{_++_};
 ghost use Prim.Native.Nat.{_-_, _≤_, min};
 ghost use lib.ListN.{length, take, drop};
-ghost use Rattle.reading.specs.Cursors.{hand, atStart, usedOf, carriedOf};
+ghost use Rattle.reading.specs.Cursors.{hand, atStart, carriedOf};
 
 // The bytes at hand stand from `at` to `end`; `offset`: where the first of them stands in the job.
 pub struct Cursor {
@@ -21,34 +21,6 @@ pub fn begin() -> Cursor
         at: 0,
         end: 0,
         offset: 0,
-    }
-}
-
-// The first k bytes at hand are used.
-pub fn used(cursor: Cursor, k: usize) -> Cursor
-    ensures { λ r. ⌜ r ≡ usedOf cursor k ⌝ }
-{
-    let at = cursor.at;
-    let end = cursor.end;
-    let offset = std::num::wrapping_add_u64(cursor.offset, k as u64);
-    if end < at {
-        return Cursor {
-            at: end,
-            end,
-            offset,
-        };
-    }
-    if end - at < k {
-        return Cursor {
-            at: end,
-            end,
-            offset,
-        };
-    }
-    Cursor {
-        at: at + k,
-        end,
-        offset,
     }
 }
 

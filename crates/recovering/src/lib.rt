@@ -47,12 +47,12 @@ fn recover_whole(
     let shown = answer.count();
     if number == 0 {
         clear_bytes(&mut marks[..]);
-        return recovered_line(line, count);
+        return recovered_line(line, 0, count);
     }
     if number == Refusal::Loose.number() {
-        return loose_line(line, shown, &witness[..]);
+        return loose_line(line, 0, shown, &witness[..]);
     }
-    crossed_line(line, shown, &witness[..])
+    crossed_line(line, 0, shown, &witness[..])
 }
 
 pub fn recover_state(held: Held, block: &mut [u8], marks: &mut [u8], line: &mut [u8]) -> usize

@@ -1,13 +1,17 @@
 // Encoding: the codeword that carries a message. And reading the message of a codeword.
-// Entries: encode, message_of.
+// Entries: encode, message_of. The function reseal is public for the crates above only.
 ghost use mathlib.Core.Path.{_≡_};
+ghost use mathlib.Core.List.{map};
 ghost use Prim.Native.Nat.{_*_, _≤_};
 ghost use lib.ListN.{length, replicate};
 ghost use Rattle.bounds.specs.Bounds.{maxT};
 ghost use Rattle.plan.specs.Layout.{layout, messageCount};
 ghost use Rattle.plan.specs.GoodPlan.{GoodPlan};
-ghost use Rattle.code.specs.Codewords.{Codeword};
+ghost use Rattle.plan.specs.Plans.{layoutOf, planCheck};
+ghost use Rattle.refusals.specs.declared.Check.the-variants as check;
+ghost use Rattle.code.specs.Codewords.{Codeword, at};
 ghost use Rattle.code.specs.Messages.{Carries};
+ghost use Rattle.code.specs.Laws.ParityCount.{messages};
 ghost use Rattle.runs.specs.Laws.Fronts.{total};
 ghost use Rattle.promises.specs.Promises.{Encodes, Reads};
 ghost use Rattle.sealing.specs.Reading.{Tells};
@@ -92,6 +96,19 @@ pub fn encode(plan: Plan, message: &[u8], block: &mut [u8]) -> Encoding
         }
         Check::Stop(x) => Encoding::Refused(x),
     }
+}
+
+// The block becomes the codeword that carries what stands at its message places. Only parity places are written, and nothing is copied.
+pub fn reseal(plan: Plan, block: &mut [u8])
+    requires { ⌜ (planCheck plan ≡ check.Pass) × (length (now block) ≡ plan .n * plan .t) ⌝ }
+    ensures { λ _. ⌜ Carries (layoutOf plan) (now (block .exit)) (map (at (now (block .entry))) (messages (layoutOf plan))) ⌝ }
+{
+    let n = plan.n;
+    let t = plan.t;
+    let s = plan.shifts;
+    let mut r = [0u16; 32];
+    runs(n, t, &s[..], &mut r[..]);
+    fill_parities(n, t, &s[..], &r[..], block);
 }
 
 // Whether every row of the block sums to 0, by a table of zeros. There are no erasures, so none is left.

@@ -1,51 +1,18 @@
--- First lines of a job: every sheet of the rest completes them, and every sheet of the job begins with them.
--- Main results: begins-more, begins-stands, begins-sheet, follows-sheet, cut-sheet.
-use mathlib.Core.Path.{_≡_, refl, sym, _∙_, ap, subst}
-use mathlib.Core.List.{List, [], _++_, append-assoc, append-nil}
+-- First lines of a job and the line that follows.
+-- Main results: follows-sheet, cut-sheet.
+use mathlib.Core.Path.{_≡_, sym, _∙_, ap}
+use mathlib.Core.List.{List, [], _++_, append-nil}
 use Prim.Native.Nat.{ℕ, _+_, _<_}
 use native.Mathlib.Omega.{arith}
-use lib.ListN.{length, getD, take, drop, length-append}
-use lib.Seq.{drop-drop, take-append-seam}
-use Rattle.commands.specs.Commands.{sizeOf}
+use lib.ListN.{length, take, length-append}
+use lib.Seq.{take-append-seam}
 use Rattle.state.specs.State.{State}
-use Rattle.act.specs.MeaningOnce.{Standing, means-stands, means-once}
+use Rattle.act.specs.MeaningOnce.{Standing, means-once}
 use Rattle.turns.specs.Sheets as sheets
 use Rattle.turns.specs.Sheets.{Sheet, start}
-use Rattle.one_sheet.specs.OneSheet.{start-stands, sheet-goes, sheet-once}
-use Rattle.sheet.specs.Running.{Begins, nothing-yet, one-more, Follows, goes, closes, Cut}
-
--- every sheet of the rest completes first lines to a sheet of the job
-pub begins-more : {job : List ℕ} {o : ℕ} {s : State} {text : List ℕ} → Begins job o s text → (rest : List ℕ) → Sheet o s (drop o job) rest → Sheet 0 start job (text ++ rest)
-begins-more nothing-yet rest t = t
-begins-more {job} (one-more {o = o} {s = s} {text = text} b c s' said p z m) rest t =
-    subst (Sheet 0 start job) (sym (append-assoc text said rest))
-    (begins-more b (said ++ rest) (sheets.goes-on {o = o} {s = s} {b = drop o job} s' said rest c p z m
-    (rw (drop-drop (sizeOf (getD (drop o job) 0 0)) o job) t)))
-
-pub begins-stands : {job : List ℕ} {o : ℕ} {s : State} {text : List ℕ} → Begins job o s text → Standing s
-begins-stands nothing-yet = start-stands
-begins-stands (one-more b c s' said p z m) = means-stands said (begins-stands b) c z m
-
--- a text is the first part of another, and the rest is a sheet
-pub record Starts (o : ℕ) (s : State) (b text x : List ℕ) : Type 0 where
-  pub rest : List ℕ
-  pub follows : Sheet o s b rest
-  pub parts : x ≡ text ++ rest
-
--- every sheet of the job starts with its first lines, and goes on with a sheet of the rest
-pub begins-sheet : {job : List ℕ} {o : ℕ} {s : State} {text x : List ℕ} → Begins job o s text → Sheet 0 start job x → Starts o s (drop o job) text x
-begins-sheet {x = x} nothing-yet t = record { rest = x; follows = t; parts = refl }
-begins-sheet {job} (one-more {o = o} {s = s} {text = text} b c s' said p z m) t =
-    let r = begins-sheet b t in
-    let g = sheet-goes c (r .follows) p z in
-    let w = means-once (begins-stands b) c z m (g .means) in
-    let size = sizeOf (getD (drop o job) 0 0) in
-    record {
-      rest = g .rest;
-      follows = subst (λ y. Sheet (o + size) s' y (g .rest)) (drop-drop size o job)
-          (subst (λ (y : State). Sheet (o + size) y (drop size (drop o job)) (g .rest)) (sym (w .0)) (g .follows));
-      parts = r .parts ∙ ap (λ y. text ++ y) (g .parts ∙ ap (λ y. y ++ g .rest) (sym (w .1))) ∙ sym (append-assoc text said (g .rest));
-    }
+use Rattle.one_sheet.specs.OneSheet.{sheet-goes, sheet-once}
+use Rattle.one_sheet.specs.Begins.{begins-stands, begins-sheet}
+use Rattle.sheet.specs.Running.{Follows, goes, closes, Cut}
 
 -- every sheet of the rest starts with the line that follows
 pub follows-sheet : {o : ℕ} {s : State} {b said x : List ℕ} → Standing s → Follows o s b said → Sheet o s b x → (rest : List ℕ) × (x ≡ said ++ rest)

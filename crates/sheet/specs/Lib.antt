@@ -1,6 +1,5 @@
 -- Whole jobs and jobs read in parts.
 pub mod Running
 pub mod Theorems
-pub mod Reading
 pub mod BeginsLaws
 pub mod RunningLaws

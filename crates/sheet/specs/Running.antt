@@ -1,12 +1,12 @@
 -- What a run over a whole job promises, and what holds on the way.
--- Main definitions: Begins, Follows, Cut, Runs; Running.
+-- Main definitions: Follows, Cut, Runs; Running.
 use mathlib.Core.Path.{_≡_}
 use mathlib.Core.Logic.{_≢_}
-use mathlib.Core.List.{List, [], _++_}
+use mathlib.Core.List.{List}
 use Prim.Native.Nat.{ℕ, _+_, _≤_, _<_}
-use lib.ListN.{length, getD, take, drop}
+use lib.ListN.{length, take, drop}
 use Rattle.refusals.specs.declared.Check.the-variants.{Pass}
-use Rattle.commands.specs.Commands.{sizeOf, parsed}
+use Rattle.commands.specs.Commands.{parsed}
 use Rattle.commands.specs.declared.Command.{Command}
 use Rattle.commands.specs.declared.Parsed.the-variants as front
 use Rattle.lines.specs.Lines.{lineLength}
@@ -16,14 +16,9 @@ use Rattle.act.specs.Meaning.{Means}
 use Rattle.act.specs.Acts.{stateOf, Kept}
 use Rattle.act.specs.declared.Held.{Held}
 use Rattle.turns.specs.Sheets.{Sheet, start}
+use Rattle.one_sheet.specs.Begins.{Begins}
 use Rattle.sheet.specs.declared.Ran.{Ran}
 use Rattle.sheet.specs.declared.Ran.the-variants.{Whole, Full}
-
--- the lines of a job's first commands, which lead to this offset and this state
-pub data Begins (job : List ℕ) : ℕ → State → List ℕ → Type 0 where
-  nothing-yet : Begins job 0 start []
-  one-more : {o : ℕ} {s : State} {text : List ℕ} → Begins job o s text → (c : Command) (s' : State) (said : List ℕ) → parsed (drop o job) ≡ front.Whole c →
-      refusalOf s c ≡ Pass → Means c s s' said → Begins job (o + sizeOf (getD (drop o job) 0 0)) s' (text ++ said)
 
 -- the line that follows: that of a command that goes on, or where none does the last line
 pub data Follows (o : ℕ) (s : State) (b said : List ℕ) : Type 0 where

@@ -1,20 +1,13 @@
 -- From turns to the sheet: how each step keeps the run going.
--- Main results: turned, turn-fits, next-placed; run-start, run-less, run-whole, run-full; held-start, held-ready.
+-- Main results: turned, turn-fits, next-placed; run-start, run-whole, run-full; held-ready.
 use mathlib.Core.Path.{_≡_, refl, sym, _∙_, ap, subst}
-use mathlib.Core.Logic.{by-cases}
-use mathlib.Core.Bool.{true, cond}
+use mathlib.Core.Bool.{true}
 use mathlib.Core.List.{List, []}
-use Prim.Native.Nat.{ℕ, suc, _+_, _-_, _^_, _≤_, _<_}
-use native.Mathlib.Decide.{ℕ-discrete}
+use Prim.Native.Nat.{ℕ, _+_, _-_, _^_, _≤_, _<_}
 use native.Mathlib.Omega.{arith}
-use lib.Dec.{eqb}
 use lib.ListN.{length, getD, take, drop, length-take, length-drop, length-append}
 use lib.Seq.{take-all, drop-drop, length-take-le}
-use borrow.Author.Tests.{eq-eqb, ne-eqb}
 use Rattle.refusals.specs.declared.Check.the-variants.{Pass}
-use Rattle.plan.specs.Layout.{layout}
-use Rattle.plan.specs.Plans.{noPlan, plan, layoutOf}
-use Rattle.code.specs.Marks.{markBytes}
 use Rattle.commands.specs.Commands.{sizeOf, parsed}
 use Rattle.commands.specs.declared.Command.{Command}
 use Rattle.commands.specs.declared.Parsed.the-variants.{Whole}
@@ -32,8 +25,8 @@ use Rattle.turns.specs.declared.Turn.{Turn}
 use Rattle.turns.specs.declared.Turn.the-variants.{On}
 use Rattle.putting.specs.Putting.{Put, fits, no-room, Fits, Placed, on, ended, stopped, waits, bad}
 use Rattle.one_sheet.specs.Outcomes.{Closing, Outcome, outcome, on-count, end-count, stop-count, never-waits, never-bad}
-use Rattle.sheet.specs.Running.{Begins, nothing-yet, one-more, Follows, goes, closes, Cut, Runs, Running}
-use Rattle.sheet.specs.BeginsLaws.{begins-more}
+use Rattle.one_sheet.specs.Begins.{Begins, nothing-yet, one-more, begins-more, held-start}
+use Rattle.sheet.specs.Running.{Follows, goes, closes, Cut, Runs, Running}
 use Rattle.sheet.specs.declared.Ran.the-variants as ran
 
 zero-one : _≡_ {A = ℕ} 0 1 → ⊥
@@ -189,10 +182,6 @@ module _ {job lent : List ℕ} {h : Held} {v m l : List ℕ} {at to : ℕ} {shee
 
 -- ---- the loop
 
--- what is left to do: the commands that the rest can hold, and the close
-abbrev pub left : ℕ → ℕ → ℕ → ℕ
-left phase at n = cond (eqb phase 0) (suc n - at) 0
-
 pub run-start : (h : Held) (v m l job sheet : List ℕ) → Kept h v m → length l ≡ lineLength → stateOf h v m ≡ start → Running job sheet h v m l 0 0 sheet 0
 run-start h v m l job sheet k e s = record {
   kept = k;
@@ -206,12 +195,6 @@ run-start h v m l job sheet k e s = record {
   closed = λ q. absurd (omega arith);
   full = λ q. absurd (omega arith);
 }
-
-pub run-less : (phase at n phase' at' : ℕ) → phase ≡ 0 → at ≤ n → (phase' ≡ 0 → at < at') → left phase' at' n < left phase at n
-run-less phase at n phase' at' e h g =
-    by-cases (ℕ-discrete phase' 0)
-    (λ z. rw (eq-eqb phase 0 e, eq-eqb phase' 0 z) (omega (arith, g z)))
-    (λ o. rw (eq-eqb phase 0 e, ne-eqb phase' 0 o) (omega arith))
 
 module _ {job lent : List ℕ} {h : Held} {v m l : List ℕ} {at to : ℕ} {sheet : List ℕ} {phase : ℕ}
     (r : Running job lent h v m l at to sheet phase) where
@@ -234,10 +217,6 @@ module _ {job lent : List ℕ} {h : Held} {v m l : List ℕ} {at to : ℕ} {shee
   }
 
 -- ---- the start
-
-pub held-start : (v m : List ℕ) → stateOf unplanned v m ≡ start
-unfolding stateOf start noPlan plan markBytes layoutOf layout
-held-start v m = refl
 
 pub held-ready : (h : Held) (v m l : List ℕ) → h ≡ unplanned → length v ≡ blockLength → length m ≡ marksLength → length l ≡ lineLength →
     Kept h v m × (length l ≡ lineLength) × (stateOf h v m ≡ start)

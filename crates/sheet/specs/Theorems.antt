@@ -1,19 +1,27 @@
 -- Whole jobs: a job has exactly one sheet, what run writes is that sheet, and reading in parts of any size means the same. Each theorem has one sentence.
--- Main results: job-sheet; run-writes, run-short, run-exactly; parts-sheet, sheet-parts, parts-same.
+-- Main results: job-sheet; run-writes, run-short, run-exactly; parts-sheet, sheet-parts, parts-same; prefix-performs.
 use mathlib.Core.Path.{_≡_, refl, sym, _∙_, ap, subst}
-use mathlib.Core.Logic.{_↔_}
+use mathlib.Core.Logic.{_↔_, _⊎_, inl, inr, ⊎-elim}
+use mathlib.Core.Bool.{Bool, false}
 use mathlib.Core.List.{List, [], _++_}
 use Prim.Native.Nat.{ℕ, _≤_, _<_}
 use native.Mathlib.Omega.{arith}
 use lib.ListN.{length, getD, take, drop, take-append-drop}
 use lib.Seq.{length-take-le}
+use Rattle.refusals.specs.RefusalLaws.{stop-or-pass}
 use Rattle.code.specs.Codewords.{Single}
+use Rattle.act.specs.declared.Held.{Held}
+use Rattle.standing.specs.Standing.{heldCheck}
+use Rattle.turns.specs.Turns.{Same}
+use Rattle.turns.specs.declared.Turn.{Turn}
+use Rattle.turns.specs.declared.Turn.the-variants.{Wait}
+use Rattle.job.specs.Performs.{Performs}
 use Rattle.turns.specs.Sheets.{Sheet, start}
 use Rattle.one_sheet.specs.OneSheet.{one-sheet}
 use Rattle.sheet.specs.Running.{Runs, written}
 use Rattle.sheet.specs.BeginsLaws.{cut-sheet}
 use Rattle.one_sheet.specs.SomeSheet.{sheet-single}
-use Rattle.one_sheet.specs.Parts.{joined, Fed, fed-sheet, sheet-fed}
+use Rattle.one_sheet.specs.Parts.{joined, Fed, fed-sheet, sheet-fed, prefix-turns}
 use Rattle.sheet.specs.declared.Ran.{Ran}
 use Rattle.sheet.specs.declared.Ran.the-variants.{Whole, Full}
 
@@ -70,3 +78,16 @@ sheet-parts parts s = sheet-fed [] parts s
 -- reading in parts of any size means the same
 pub parts-same : {parts other : List (List ℕ)} {x y : List ℕ} → joined parts ≡ joined other → Fed 0 start [] parts x → Fed 0 start [] other y → x ≡ y
 parts-same {parts} {other} {x} {y} e f g = one-sheet (fed-sheet f) (subst (λ b. Sheet 0 start b y) (sym e) (fed-sheet g))
+
+zero-one : _≡_ {A = ℕ} 0 1 → ⊥
+zero-one e = omega arith
+
+module _ {h : Held} {v m l a : List ℕ} {o : ℕ} {turn : Turn} {h' : Held} {v' m' l' : List ℕ} where
+  -- perform with more bytes to come waits, or answers exactly what it answers on all the bytes
+  pub prefix-performs : Performs h v m l a false o turn h' v' m' l' →
+      ((turn ≡ Wait) × Same h v m h' v' m' × (l' ≡ l)) ⊎ ((b : List ℕ) (last : Bool) → Performs h v m l (a ++ b) last o turn h' v' m' l')
+  prefix-performs p =
+      ⊎-elim
+      (λ pass. ⊎-elim (λ w. inl w) (λ w. inr (λ b last. record { bad = λ x q. absurd (zero-one (cc)); passed = λ _. w b last })) (prefix-turns (p .passed pass)))
+      (λ s. inr (λ b last. record { bad = p .bad; passed = λ q. let e = s .1 in absurd (zero-one (cc)) }))
+      (stop-or-pass (heldCheck h v m l))

@@ -1,5 +1,5 @@
 -- What refuses a lent state (01, "What is turned away").
--- Main definitions: buffersFit, heldCheck.
+-- Main definitions: buffersFit, stateCheck, heldCheck.
 use mathlib.Core.Bool.{Bool, cond, _&&_}
 use mathlib.Core.List.{List}
 use Prim.Native.Nat.{ℕ}
@@ -16,5 +16,10 @@ unfoldable pub buffersFit : List ℕ → List ℕ → List ℕ → Bool
 buffersFit v m l = eqb (length v) blockLength && eqb (length m) marksLength && eqb (length l) lineLength
 
 -- what refuses a lent state is what refuses a call: 1 and 2 by the plan, then 3, then 4. With no plan there are no places, and so no spare bits.
+-- `fits`: every lent buffer has its length
+unfoldable pub stateCheck : Held → Bool → List ℕ → Check
+stateCheck h fits m = cond (h .planned) (callCheck (h .plan) fits m) (lentCheck 0 fits m)
+
 unfoldable pub heldCheck : Held → List ℕ → List ℕ → List ℕ → Check
-heldCheck h v m l = cond (h .planned) (callCheck (h .plan) (buffersFit v m l) m) (lentCheck 0 (buffersFit v m l) m)
+unfolding buffersFit stateCheck
+heldCheck h v m l = stateCheck h (buffersFit v m l) m

@@ -1,6 +1,6 @@
 -- The tests of a lent state, and what a state that passes has.
--- Main results: block-off, marks-off, line-last; no-plan, plan-stops, plan-passes; pass-kept, kept-pass.
-use mathlib.Core.Path.{_≡_, sym, _∙_, ap}
+-- Main results: block-off, marks-off, line-last; no-plan, plan-stops, plan-passes; state-passed, state-passes, pass-kept, kept-pass.
+use mathlib.Core.Path.{_≡_, sym, _∙_}
 use mathlib.Core.Bool.{Bool, true, false, cond, not, true≢false, _&&_}
 use mathlib.Core.List.{List}
 use Prim.Native.Nat.{ℕ, _+_, _*_, _/_}
@@ -26,7 +26,7 @@ use Rattle.bits.specs.ByteLaws.{none-marked}
 use Rattle.lines.specs.Lines.{lineLength}
 use Rattle.act.specs.Acts.{blockLength, marksLength, Kept}
 use Rattle.act.specs.declared.Held.{Held}
-use Rattle.standing.specs.Standing.{buffersFit, heldCheck}
+use Rattle.standing.specs.Standing.{buffersFit, stateCheck, heldCheck}
 
 -- ---- the lengths
 
@@ -54,20 +54,18 @@ module _ (v m l : List ℕ) where
 
 -- ---- which test gives which answer
 
-module _ (h : Held) (v m l : List ℕ) where
-  pub no-plan : {fits : Bool} {r : Check} → not (h .planned) ≡ true → fits ≡ buffersFit v m l → r ≡ lentCheck 0 fits m → r ≡ heldCheck h v m l
-  unfolding heldCheck
-  no-plan n e f = f ∙ ap (λ b. lentCheck 0 b m) e ∙ rw (not-true (h .planned) n)
+module _ (h : Held) (fits : Bool) (m : List ℕ) where
+  pub no-plan : {r : Check} → not (h .planned) ≡ true → r ≡ lentCheck 0 fits m → r ≡ stateCheck h fits m
+  unfolding stateCheck
+  no-plan n f = f ∙ rw (not-true (h .planned) n)
 
-  pub plan-stops : {x : Refusal} → not (h .planned) ≡ false → planCheck (h .plan) ≡ Stop x → Stop x ≡ heldCheck h v m l
-  unfolding heldCheck
-  plan-stops n e = call-stop (h .plan) (buffersFit v m l) m e ∙ rw (not-false (h .planned) n)
+  pub plan-stops : {x : Refusal} → not (h .planned) ≡ false → planCheck (h .plan) ≡ Stop x → Stop x ≡ stateCheck h fits m
+  unfolding stateCheck
+  plan-stops n e = call-stop (h .plan) fits m e ∙ rw (not-false (h .planned) n)
 
-  pub plan-passes : {fits : Bool} {r : Check} → not (h .planned) ≡ false → planCheck (h .plan) ≡ Pass → fits ≡ buffersFit v m l →
-      r ≡ lentCheck (h .plan .n * h .plan .t) fits m → r ≡ heldCheck h v m l
-  unfolding heldCheck
-  plan-passes n e f g =
-      call-next (h .plan) (buffersFit v m l) m e (g ∙ ap (λ b. lentCheck (h .plan .n * h .plan .t) b m) f) ∙ rw (not-false (h .planned) n)
+  pub plan-passes : {r : Check} → not (h .planned) ≡ false → planCheck (h .plan) ≡ Pass → r ≡ lentCheck (h .plan .n * h .plan .t) fits m → r ≡ stateCheck h fits m
+  unfolding stateCheck
+  plan-passes n e g = call-next (h .plan) fits m e g ∙ rw (not-false (h .planned) n)
 
 -- ---- a state that passes
 
@@ -80,28 +78,36 @@ lent-fits : (places : ℕ) (fits : Bool) (m : List ℕ) → lentCheck places fit
 unfolding lentCheck
 lent-fits places fits m e = unless-pass fits Length (then-pass (unless fits Length) (unless (spareClear places m) Spare) e .0)
 
+-- a state that passes: the buffers fit, and where a plan is held it is good and its marks have no spare bit
+module _ (h : Held) (fits : Bool) (m : List ℕ) where
+  pub state-passed : stateCheck h fits m ≡ Pass →
+      (fits ≡ true) × (h .planned ≡ true → planCheck (h .plan) ≡ Pass) × (h .planned ≡ true → NoSpare (layoutOf (h .plan)) (take (markBytes (layoutOf (h .plan))) m))
+  unfolding stateCheck NoSpare markBytes layoutOf layout spareClear
+  state-passed e =
+      let r = held-passed (h .planned) (callCheck (h .plan) fits m) (lentCheck 0 fits m) e in (
+        by-test (h .planned) (λ p. call-passed (h .plan) fits m (r .0 p) .1) (λ p. lent-fits 0 fits m (r .1 p)),
+        λ p. call-passed (h .plan) fits m (r .0 p) .0,
+        λ p. none-marked (take ((h .plan .n * h .plan .t + 7) / 8) m) (h .plan .n * h .plan .t) (call-passed (h .plan) fits m (r .0 p) .2),
+      )
+
+  -- and the other way
+  pub state-passes : {v : List ℕ} → Kept h v m → fits ≡ true → stateCheck h fits m ≡ Pass
+  unfolding stateCheck NoSpare markBytes layoutOf layout spareClear noneFrom
+  state-passes k e =
+      by-test (h .planned)
+      (λ p. rw p (call-passes (h .plan) fits m (k .good p) e
+      (eq-eqb _ 0 (markCount-zero (take ((h .plan .n * h .plan .t + 7) / 8) m) (h .plan .n * h .plan .t) _ (λ c g less. k .spare p c g (omega arith))))))
+      (λ p. rw p (sym (lent-pass 0 m fits e (sym (spare-none m)))))
+
 module _ (h : Held) (v m l : List ℕ) where
   pub pass-kept : heldCheck h v m l ≡ Pass → Kept h v m × (length l ≡ lineLength)
-  unfolding heldCheck NoSpare markBytes layoutOf layout spareClear
+  unfolding heldCheck
   pass-kept e =
-      let r = held-passed (h .planned) (callCheck (h .plan) (buffersFit v m l) m) (lentCheck 0 (buffersFit v m l) m) e in
-      let b = buffers-long v m l
-      (by-test (h .planned) (λ p. call-passed (h .plan) (buffersFit v m l) m (r .0 p) .1) (λ p. lent-fits 0 (buffersFit v m l) m (r .1 p))) in (
-        record {
-          good = λ p. call-passed (h .plan) (buffersFit v m l) m (r .0 p) .0;
-          spare = λ p. none-marked (take ((h .plan .n * h .plan .t + 7) / 8) m) (h .plan .n * h .plan .t) (call-passed (h .plan) (buffersFit v m l) m (r .0 p) .2);
-          block-long = b .0;
-          marks-long = b .1;
-        },
-        b .2,
-      )
+      let s = state-passed h (buffersFit v m l) m e in
+      let b = buffers-long v m l (s .0) in
+      (record { good = s .1; spare = s .2; block-long = b .0; marks-long = b .1 }, b .2)
 
   -- and the other way: a kept state with its line buffer passes
   pub kept-pass : Kept h v m → length l ≡ lineLength → heldCheck h v m l ≡ Pass
-  unfolding heldCheck NoSpare markBytes layoutOf layout spareClear noneFrom
-  kept-pass k e =
-      let fits : buffersFit v m l ≡ true = sym (line-last v m l (k .block-long) (k .marks-long)) ∙ eq-eqb (length l) lineLength e in
-      by-test (h .planned)
-      (λ p. rw p (call-passes (h .plan) (buffersFit v m l) m (k .good p) fits
-      (eq-eqb _ 0 (markCount-zero (take ((h .plan .n * h .plan .t + 7) / 8) m) (h .plan .n * h .plan .t) _ (λ c g less. k .spare p c g (omega arith))))))
-      (λ p. rw p (sym (lent-pass 0 m (buffersFit v m l) fits (sym (spare-none m)))))
+  unfolding heldCheck
+  kept-pass k e = state-passes h (buffersFit v m l) m k (sym (line-last v m l (k .block-long) (k .marks-long)) ∙ eq-eqb (length l) lineLength e)

@@ -1,7 +1,7 @@
 // What refuses the lent state of a job, by the tests of every call: 1 and 2 where a plan is held, then 3, then 4.
 // Public for the crates above only.
 ghost use mathlib.Core.Path.{_≡_};
-ghost use Rattle.standing.specs.Standing.{buffersFit, heldCheck};
+ghost use Rattle.standing.specs.Standing.{buffersFit, stateCheck, heldCheck};
 use act::BLOCK;
 use act::Held;
 use act::MARKS;
@@ -9,13 +9,19 @@ use calls::check_lent;
 use lines::LINE;
 use refusals::Check;
 
-// With no plan there are no places, and so no spare bits.
 pub fn check_held(held: Held, block: &[u8], marks: &[u8], line: &[u8]) -> Check
     ensures { λ r. ⌜ r ≡ heldCheck held (now (block .entry)) (now (marks .entry)) (now (line .entry)) ⌝ }
 {
+    let fits = buffers_fit(block, marks, line);
+    check_state(held, fits, marks)
+}
+
+// With no plan there are no places, and so no spare bits. `fits`: every lent buffer has its length.
+pub fn check_state(held: Held, fits: bool, marks: &[u8]) -> Check
+    ensures { λ r. ⌜ r ≡ stateCheck held fits (now (marks .entry)) ⌝ }
+{
     let plan = held.plan;
     let planned = held.planned;
-    let fits = buffers_fit(block, marks, line);
     if !planned {
         return check_lent(fits, 0, marks);
     }

@@ -1,5 +1,5 @@
 -- What refuses a command on a state (01, "What is turned away": "In a job: 7, 8, 9, then the others").
-use mathlib.Core.Bool.{Bool, true, _&&_}
+use mathlib.Core.Bool.{Bool, true, false, _&&_}
 use Prim.Native.Nat.{_+_, _*_}
 use lib.Dec.{leb, ltb}
 use Rattle.refusals.specs.Refusals.{unless, _then_}
@@ -14,6 +14,21 @@ use Rattle.state.specs.State.{State}
 -- 9, early: "needs a plan and there is none, or names a section, place or run outside it"; and then the other refusals of a command
 unfoldable pub early : Bool → Bool → Check → Check
 early planned inside other = unless (planned && inside) Early then other
+
+-- whether a command makes a plan: "01 n[1] t[2] plan"; "0A n[1] t[2] straight, 0B n[1] t[2] q[2] powers, 0C n[1] ruler, each otherwise as 01"
+unfoldable pub makesPlan : Command → Bool
+makesPlan (NewPlan n t) = true
+makesPlan (SetShift j p) = false
+makesPlan (SetSymbol c v) = false
+makesPlan (MarkOne c) = false
+makesPlan (MarkRun c m) = false
+makesPlan Recover = false
+makesPlan Seal = false
+makesPlan (Show c) = false
+makesPlan Figures = false
+makesPlan (Straight n t) = true
+makesPlan (Powers n t q) = true
+makesPlan (Ruler n) = true
 
 -- what refuses a command on a state
 unfoldable pub refusalOf : State → Command → Check

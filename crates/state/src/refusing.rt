@@ -1,26 +1,39 @@
 // What refuses a command, by the plan alone: one function per test. Nothing here can wrap, whatever the plan says.
 ghost use mathlib.Core.Path.{_≡_};
-ghost use mathlib.Core.Bool.{true};
+ghost use mathlib.Core.Bool.{true, false};
 ghost use Prim.Native.Nat.{_+_, _*_};
 ghost use lib.Dec.{leb, ltb};
 ghost use Rattle.refusals.specs.Refusals.{unless};
 ghost use Rattle.refusals.specs.declared.Check.the-variants as check;
 ghost use Rattle.refusals.specs.declared.Refusal.the-variants as refusals;
-ghost use Rattle.plan.specs.Plans.{blankOf, straightOf, powersOf, rulerOf};
 ghost use Rattle.state.specs.State.{State};
-ghost use Rattle.state.specs.Refusing.{early, refusalOf};
+ghost use Rattle.state.specs.Refusing.{makesPlan, early, refusalOf};
 use commands::Command;
 use plan::Plan;
 use refusals::Check;
 use refusals::Refusal;
 
+// Whether a command makes a plan.
+pub fn makes_plan(command: Command) -> bool
+    ensures { λ r. ⌜ r ≡ makesPlan command ⌝ }
+{
+    match command {
+        Command::NewPlan { n: _, t: _ } => true,
+        Command::Straight { n: _, t: _ } => true,
+        Command::Powers { n: _, t: _, q: _ } => true,
+        Command::Ruler { n: _ } => true,
+        _ => false,
+    }
+}
+
+// A command that makes no plan: one that makes a plan is refused with its plan.
 pub fn refusal(planned: bool, plan: Plan, command: Command) -> Check
+    requires { ⌜ makesPlan command ≡ false ⌝ }
     ensures { λ r. ⌜ ((s : State) → s .planned ≡ planned → s .plan ≡ plan → r ≡ refusalOf s command) ⌝ }
 {
     let sections = plan.n;
     let symbols = plan.t;
     match command {
-        Command::NewPlan { n, t } => blank(n as usize, t as usize),
         Command::SetShift { j, p } => shift(planned, sections, symbols, j as usize, p as usize),
         Command::SetSymbol { c, v: _ } => place(planned, sections, symbols, c as usize),
         Command::MarkOne { c } => place(planned, sections, symbols, c as usize),
@@ -29,9 +42,7 @@ pub fn refusal(planned: bool, plan: Plan, command: Command) -> Check
         Command::Seal => no_plan(planned),
         Command::Show { c } => place(planned, sections, symbols, c as usize),
         Command::Figures => no_plan(planned),
-        Command::Straight { n, t } => straight(n as usize, t as usize),
-        Command::Powers { n, t, q } => powers(n as usize, t as usize, q as usize),
-        Command::Ruler { n } => ruler(n as usize),
+        _ => Check::Pass,
     }
 }
 
@@ -95,32 +106,4 @@ fn inside(n: usize, t: usize, c: usize) -> bool
         return false;
     }
     c / n < t
-}
-
-fn blank(n: usize, t: usize) -> Check
-    ensures { λ r. ⌜ r ≡ blankOf n t .answer ⌝ }
-{
-    let made = Plan::blank(n, t);
-    made.answer
-}
-
-fn straight(n: usize, t: usize) -> Check
-    ensures { λ r. ⌜ r ≡ straightOf n t .answer ⌝ }
-{
-    let made = Plan::straight(n, t);
-    made.answer
-}
-
-fn powers(n: usize, t: usize, q: usize) -> Check
-    ensures { λ r. ⌜ r ≡ powersOf n t q .answer ⌝ }
-{
-    let made = Plan::powers(n, t, q);
-    made.answer
-}
-
-fn ruler(n: usize) -> Check
-    ensures { λ r. ⌜ r ≡ rulerOf n .answer ⌝ }
-{
-    let made = Plan::ruler(n);
-    made.answer
 }

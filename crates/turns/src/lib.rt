@@ -67,7 +67,7 @@ pub fn at_end(held: Held, line: &mut [u8], last: bool) -> Step
             held,
         };
     }
-    let count = end_line(line);
+    let count = end_line(line, 0);
     Step {
         turn: Turn::End(count),
         held,
@@ -101,7 +101,7 @@ pub fn stop(held: Held, line: &mut [u8], x: Refusal, offset: u64) -> Step
     requires { ⌜ length (now line) ≡ lineLength ⌝ }
     ensures { λ r. ⌜ (r .held ≡ held) × Stops (check.Stop x) offset (now (line .entry)) (r .turn) (now (line .exit)) ⌝ }
 {
-    let count = refused_line(line, x.number(), offset);
+    let count = refused_line(line, 0, x.number(), offset);
     Step {
         turn: Turn::Stop(x, count),
         held,

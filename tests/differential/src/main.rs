@@ -1,11 +1,17 @@
-//! Differential tests: the library's C entry points, and the safe Rust layer over them, beside a second implementation (`reference`).
+//! Differential tests: the library's C entry points, and the safe Rust layer over them, beside a second implementation (`reference`); then the desk
+//! program beside a second implementation of the job (`job`).
 //!
 //! Every case compares the answer's number, the count and all of every lent buffer, with the memory on both sides of it. Buffers, counts and records hold
 //! something else before the call. The run is fixed by its seed (first argument, else the one below). It ends with status 1 if
 //! one case differs or if an outcome was met too seldom.
 
 mod cases;
+mod desk;
+mod job;
+mod job_cases;
 mod prng;
+#[path = "../../desk/src/program.rs"]
+mod program;
 mod reference;
 
 use cases::{NO_PLAN, SIZES};
@@ -357,7 +363,10 @@ fn main() {
     let start = std::time::Instant::now();
     let mut run = Run { rng: Prng::of(seed), cases: BTreeMap::new(), mismatches: 0 };
     run.all();
-    let well = run.report();
+    let mut well = run.report();
+    println!("{:.1} s", start.elapsed().as_secs_f64());
+    let start = std::time::Instant::now();
+    well &= desk::run(seed);
     println!("{:.1} s", start.elapsed().as_secs_f64());
     if !well {
         println!("differential tests FAILED");

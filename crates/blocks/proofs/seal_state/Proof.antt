@@ -2,7 +2,7 @@
 use native.Mathlib.Omega.{arith}
 use Rattle.act.specs.StateLaws.{places-most, places-fit, bytes-fit, front-long}
 use Rattle.blocks.specs.BlockLaws.{lent-whole, sealed-acts}
-use Rattle.lines.specs.LinesLaws.{wrote-front}
+use Rattle.lines.specs.LinesLaws.{wrote-at, wrote-front}
 use borrow.Author.Needs.{needs}
 use Rattle.blocks.proofs.seal_state.Statement.{statement}
 use Rattle.blocks.proofs.seal_state.Tie as tie
@@ -23,7 +23,7 @@ slice-aggregate-reseal : tie.Need-slice-aggregate-reseal
 slice-aggregate-reseal c = let p = c .before .before .before .before .before .before .before .pre in front-long _ (c .before .before .before .before .before .before .before .args .block .now) (places-fit _ (p .0 .good (p .2)) (c .before .before .before .before .before .before .before .args .block .now) (p .0 .block-long))
 
 reseal-requires : tie.Need-reseal-requires
-reseal-requires c κs = let p = c .before .before .before .before .before .before .before .pre in (p .0 .good (p .2), lent-whole (p .0) (p .2) .block-long, c .before .message-length .ensures)
+reseal-requires c κs = let p = c .before .before .before .before .before .before .before .pre in (p .0 .good (p .2), lent-whole (p .0) (p .2) .block-long)
 
 slice-relend-prefix-clear-bytes : tie.Need-slice-relend-prefix-clear-bytes
 slice-relend-prefix-clear-bytes c = let p = c .before .before .before .before .before .before .before .before .before .before .pre in bytes-fit _ (p .0 .good (p .2)) (c .before .before .before .before .before .before .before .before .before .before .args .marks .now) (p .0 .marks-long)
@@ -40,8 +40,8 @@ same-length-3 c = c .before .before .sealed-line .kept .0
 returns : tie.Need-returns
 returns c =
     let p = c .before .before .before .before .before .before .before .before .before .before .before .before .before .before .before .before .before .before .pre in
-    let e = c .before .before .sealed-line .ensures in (
-      sealed-acts (p .0) (p .2) _ _ (c .before .before .before .before .before .before .before .before .before .before .reseal .kept .1 .1 .0) (c .before .before .before .before .before .before .clear-bytes .kept .0) (c .before .before .before .before .before .before .before .before .before .before .reseal .ensures) (c .before .before .before .before .before .before .clear-bytes .ensures) (c .before .before .before .before .before .before .before .before .before .before .before .before .message-length .ensures) (e .text-stands),
+    let e = wrote-at (c .before .before .sealed-line .ensures) in (
+      sealed-acts (p .0) (p .2) _ _ (c .before .before .before .before .before .before .before .before .before .before .reseal .kept .1 .0) (c .before .before .before .before .before .before .clear-bytes .kept .0) (c .before .before .before .before .before .before .before .before .before .before .reseal .ensures) (c .before .before .before .before .before .before .clear-bytes .ensures) (c .before .before .before .before .before .before .before .before .before .before .before .before .message-length .ensures) (e .text-stands),
       wrote-front e,
     )
 

@@ -1,7 +1,7 @@
 -- `tell_figures` meets its contract. Assumes nothing.
 use Rattle.plan.specs.Plans.{layoutOf}
 use Rattle.plan.specs.PlanLaws.{good-bounds}
-use Rattle.lines.specs.LinesLaws.{wrote-front}
+use Rattle.lines.specs.LinesLaws.{wrote-at, wrote-front}
 use Rattle.blocks.specs.BlockLaws.{figured}
 use borrow.Author.Needs.{needs}
 use Rattle.blocks.proofs.tell_figures.Statement.{statement}
@@ -13,7 +13,7 @@ of-good-requires c κs = good-bounds _ (c .before .before .before .before .pre .
 returns : tie.Need-returns
 unfolding layoutOf
 returns c =
-    let e = c .before .before .figures-line .ensures in
+    let e = wrote-at (c .before .before .figures-line .ensures) in
     (λ v m k. figured k _ _ _ _ (c .before .before .before .before .of-good .ensures) (e .text-stands), wrote-front e)
 
 pub tell-figures-spec : {M : Type 1} → statement M

@@ -6,11 +6,11 @@ use Rattle.desk.proofs.run.Statement.{statement}
 use Rattle.desk.proofs.run.Tie as tie
 
 abbrev Inv-loop : tie.InvT-loop
-Inv-loop block₀ marks₀ sheet₀ input₀ desk₀ left₀ block marks sheet input desk left =
+Inv-loop block₀ marks₀ sheet₀ input₀ stream₀ left₀ block marks sheet input stream left =
     (length block ≡ length block₀) × (length marks ≡ length marks₀) × (length sheet ≡ length sheet₀) × (length input ≡ length input₀)
 
 abbrev μ-loop : tie.MeasureT-loop
-μ-loop block₀ marks₀ sheet₀ input₀ desk₀ left₀ block marks sheet input desk left = left
+μ-loop block₀ marks₀ sheet₀ input₀ stream₀ left₀ block marks sheet input stream left = left
 
 pub run-spec : {M : Type 1} → statement M
 run-spec =

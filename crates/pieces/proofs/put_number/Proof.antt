@@ -1,30 +1,38 @@
 -- `put_number` meets its contract: the space, then the digits. Assumes nothing.
 use borrow.Author.Needs.{needs}
-use mathlib.Core.Path.{_∙_}
 use native.Mathlib.Omega.{arith}
 use lib.ListN.{length-set}
-use Rattle.pieces.specs.DecimalLaws.{length-decimal-is}
-use Rattle.pieces.specs.PiecesLaws.{appends-number}
+use Rattle.pieces.specs.PiecesLaws.{appends-both, appends-byte}
 use Rattle.pieces.proofs.put_number.Statement.{statement}
 use Rattle.pieces.proofs.put_number.Tie as tie
 
-spell-requires : tie.Need-spell-requires
-spell-requires c κs = simp length-set (omega (arith, length-decimal-is (c .before .before .before .args .n)))
-
-same-length : tie.Need-same-length
-same-length c = c .before .before .spell .kept .0 ∙ length-set (c .before .before .before .before .before .before .args .line .now) (c .before .before .before .before .before .before .args .at) _
+put-short-requires : tie.Need-put-short-requires
+put-short-requires c κs = (omega arith, simp length-set (omega arith))
 
 returns : tie.Need-returns
-returns c = appends-number _ _ _ _ _ (c .before .before .before .before .width .ensures .0) (omega arith) (c .before .before .spell .ensures .0) (c .before .before .spell .kept .0) (c .before .before .spell .ensures .1)
+returns c = appends-both (appends-byte (c .before .before .before .before .before .before .args .line .now) (c .before .before .before .before .before .before .args .at) 32 (omega arith)) (c .before .before .put-short .ensures)
+
+same-length : tie.Need-same-length
+same-length c = returns c .long
+
+put-long-requires : tie.Need-put-long-requires
+put-long-requires c κs = simp length-set (omega arith)
+
+returns-2 : tie.Need-returns-2
+returns-2 c = appends-both (appends-byte (c .before .before .before .before .before .before .args .line .now) (c .before .before .before .before .before .before .args .at) 32 (omega arith)) (c .before .before .put-long .ensures)
+
+same-length-2 : tie.Need-same-length-2
+same-length-2 c = returns-2 c .long
 
 pub put-number-spec : {M : Type 1} → statement M
 put-number-spec =
     tie.close
     (tie.spec
-    (λ c κs. search needs)
     (λ c. search needs)
     (λ c. search needs)
-    spell-requires
-    (λ c. search needs)
+    put-short-requires
     same-length
-    returns)
+    returns
+    put-long-requires
+    same-length-2
+    returns-2)

@@ -2,7 +2,7 @@
 use mathlib.Core.Path.{sym}
 use native.Mathlib.Omega.{arith}
 use Rattle.plan.specs.PlanLaws.{good-bounds}
-use Rattle.blocks.specs.Fronts.{zeros-long}
+use Rattle.blocks.specs.RecoverLaws.{zeros-long}
 use Rattle.act.specs.StateLaws.{places-most, places-fit, bytes-fit, front-long}
 use Rattle.blocks.specs.BlockLaws.{lent-whole, recovered-acts}
 use borrow.Author.Needs.{needs}

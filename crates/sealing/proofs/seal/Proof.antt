@@ -14,7 +14,7 @@ same-length : tie.Need-same-length
 same-length c = c .before .before .fill-parities .kept .1 .1 .1 .1 .0 ∙ c .before .before .before .before .before .before .spread .kept .1 .1 .1 .1 .0
 
 returns : tie.Need-returns
-returns c = sealed (c .before .before .before .before .before .before .before .before .before .before .before .before .pre .0 .good) (c .before .before .before .before .before .before .before .before .before .before .before .before .pre .1) (λ i. c .before .before .before .before .before .before .before .before .before .shared-slice-known3 .given i .fits) (c .before .before .before .before .before .before .spread .ensures _ (c .before .before .before .before .before .before .before .before .before .before .before .before .pre .0 .of)) (c .before .before .fill-parities .ensures)
+returns c = sealed (c .before .before .before .before .before .before .before .before .before .before .before .before .pre .0 .good) (λ i. c .before .before .before .before .before .before .before .before .before .shared-slice-known3 .given i .fits) (c .before .before .before .before .before .before .spread .ensures _ (c .before .before .before .before .before .before .before .before .before .before .before .before .pre .0 .of) .carried) (c .before .before .fill-parities .ensures)
 
 pub seal-spec : {M : Type 1} → statement M
 seal-spec = tie.close (tie.spec spread-requires fill-parities-requires same-length returns)

@@ -2,7 +2,8 @@
 use mathlib.Core.Path.{sym, _∙_}
 use lib.ListN.{length}
 use Rattle.sheet.specs.Running.{Running}
-use Rattle.sheet.specs.RunningLaws.{left, run-start, run-less, run-whole, run-full}
+use Rattle.one_sheet.specs.Begins.{left, left-less}
+use Rattle.sheet.specs.RunningLaws.{run-start, run-whole, run-full}
 use Rattle.sheet.proofs.run_all.Statement.{statement}
 use Rattle.sheet.proofs.run_all.Tie as tie
 
@@ -19,7 +20,7 @@ next-requires : tie.Need-next-requires Inv-loop μ-loop
 next-requires c κs = ((_, c .before .before .before .before .before .before .loop .inv), c .before .before .before .before .if1 .taken)
 
 loop-less : tie.Need-loop-less Inv-loop μ-loop
-loop-less c = run-less _ _ _ _ _ (c .before .before .before .before .before .before .before .before .before .before .before .before .before .if1 .taken) (c .before .before .before .before .before .before .before .before .before .before .before .before .before .before .before .loop .inv .inside) (c .before .before .before .before .before .before .before .before .next .ensures .1)
+loop-less c = left-less _ _ _ _ _ (c .before .before .before .before .before .before .before .before .before .before .before .before .before .if1 .taken) (c .before .before .before .before .before .before .before .before .before .before .before .before .before .before .before .loop .inv .inside) (c .before .before .before .before .before .before .before .before .next .ensures .1)
 
 loop-again : tie.Need-loop-again Inv-loop μ-loop
 loop-again c = c .before .before .before .before .before .before .before .before .next .ensures .0 _ (c .before .before .before .before .before .before .before .before .before .before .before .before .before .before .before .loop .inv)
