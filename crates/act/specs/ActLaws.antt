@@ -16,7 +16,7 @@ use Rattle.code.specs.Marks.{markBytes, NoSpare}
 use Rattle.lines.specs.Lines.{line, symbolWord}
 use Rattle.commands.specs.declared.Command.{Command}
 use Rattle.commands.specs.declared.Command.the-variants.{NewPlan, SetShift, SetSymbol, MarkOne, MarkRun, Show, Straight, Powers, Ruler}
-use Rattle.state.specs.State.{State, fresh, withPlan, withBlock}
+use Rattle.state.specs.State.{fresh, withPlan, withBlock}
 use Rattle.bits.specs.Bits.{Marked}
 use Rattle.state.specs.Refusing.{refusalOf}
 use Rattle.bits.specs.MarkedLaws.{Bytes, marked-no-spare}

@@ -1,28 +1,10 @@
--- Marks over a stretch of places: that none is set in it or from a place on, the ones of the first bytes, and a stretch set or cleared.
--- The number of marked places of a stretch is `markCount` (code/specs/Marks.antt).
+-- Marks set and cleared: a stretch of places takes a bit.
 use mathlib.Core.Path.{_≡_}
 use mathlib.Core.Logic.{_⊎_}
-use mathlib.Core.Bool.{Bool}
 use mathlib.Core.List.{List}
-use Prim.Native.Nat.{ℕ, _+_, _-_, _*_, _≤_, _<_}
-use lib.Dec.{eqb}
-use lib.Count.{ones}
+use Prim.Native.Nat.{ℕ, _+_, _≤_, _<_}
 use lib.ListN.{length, getD}
-use Rattle.math.specs.Members.{upTo}
-use Rattle.math.specs.Sums.{sumOver}
-use Rattle.code.specs.Marks.{mark, markCount}
-
--- none of the k places from a on is marked
-abbrev pub noneIn : List ℕ → ℕ → ℕ → Bool
-noneIn m a k = eqb (markCount m a k) 0
-
--- no bit of the marks is 1 from place a on
-unfoldable pub noneFrom : List ℕ → ℕ → Bool
-noneFrom m a = noneIn m a (8 * length m - a)
-
--- the number of ones in the first k mark bytes
-unfoldable pub onesOf : List ℕ → ℕ → ℕ
-onesOf m k = sumOver (upTo k) (λ i. ones (getD m i 0))
+use Rattle.code.specs.Marks.{mark}
 
 -- marks m' are m with the bits of k places from c on set to b, all others as before
 pub record Marked (m : List ℕ) (c k b : ℕ) (m' : List ℕ) : Type 0 where

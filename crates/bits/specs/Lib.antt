@@ -1,7 +1,5 @@
--- The mark bits: counted, tested, set, cleared and read as words, and the laws of these.
+-- The mark bits: set, cleared and read as words, and the laws of these.
 pub mod Bits
-pub mod ByteLaws
-pub mod Stretches
 pub mod MarkedLaws
 pub mod MarkedOnce
 pub mod Lowest

@@ -14,7 +14,7 @@ use Rattle.plan.specs.declared.Plan.{Plan}
 use Rattle.plan.specs.declared.Count.{Count}
 use Rattle.code.specs.Marks.{erasures}
 -- passed on: it is part of what refuses a call
-unfoldable pub use Rattle.bits.specs.Bits.{noneFrom}
+unfoldable pub use Rattle.stretches.specs.Stretches.{noneFrom}
 use Rattle.calls.specs.declared.Part.{Part}
 use Rattle.calls.specs.declared.Part.the-variants.{Unlent, Of}
 use Rattle.calls.specs.declared.Lent.{Lent}

@@ -25,8 +25,8 @@ use Rattle.plan.specs.declared.Plan.{Plan}
 use Rattle.plan.specs.declared.Count.the-variants.{Is, Not}
 use Rattle.code.specs.Marks.{markBytes, NoSpare}
 use Rattle.code.specs.Laws.MarksLaws.{erasure-total}
-use Rattle.bits.specs.Bits.{onesOf}
-use Rattle.bits.specs.ByteLaws.{none-marked, none-past}
+use Rattle.stretches.specs.Stretches.{onesOf}
+use Rattle.stretches.specs.ByteLaws.{none-marked, none-past}
 use Rattle.calls.specs.Calls.{partFits, lengthsFit, spareClear, lentCheck, callCheck, checkOf, countLent, countedOf}
 use Rattle.calls.specs.declared.Part.{Part}
 use Rattle.calls.specs.declared.Part.the-variants.{Of}

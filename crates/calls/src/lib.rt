@@ -1,4 +1,4 @@
-// What refuses a call: one test for every entry. And the number of marked places, counted from the bits (the crate bits).
+// What refuses a call: one test for every entry. And the number of marked places, counted from the bits (the crate stretches).
 // Entry: erasure_count. The rest is public for the crates above only: it takes the buffers' lengths, or that they fit, as its caller says.
 ghost use mathlib.Core.Path.{_≡_};
 ghost use Prim.Native.Nat.{_*_, _≤_};
@@ -8,13 +8,13 @@ ghost use Rattle.plan.specs.GoodPlan.{GoodPlan};
 ghost use Rattle.plan.specs.Layout.{layout, messageCount};
 ghost use Rattle.plan.specs.Plans.{countNumber};
 ghost use Rattle.calls.specs.Calls.{partFits, lengthsFit, spareClear, lentCheck, checkOf, countLent, countedOf};
-use bits::count_ones;
-use bits::none_from;
 use plan::Count;
 use plan::Plan;
 use plan::message_places;
 use refusals::Check;
 use refusals::Refusal;
+use stretches::count_ones;
+use stretches::none_from;
 
 // A buffer's length, or none where the call takes no such buffer.
 pub enum Part {

@@ -1,12 +1,16 @@
 -- The cases of reading a command as laws: one for each first byte.
--- Main results: is-new-plan .. is-ruler, no-size, nothing, unknown, short, whole.
-use mathlib.Core.Path.{_≡_, refl, sym, _∙_}
-use mathlib.Core.List.{List, [], _∷_}
+-- Main results: is-new-plan .. is-ruler, no-size, nothing, unknown, short, whole, size-most, command-prefix.
+use mathlib.Core.Path.{_≡_, refl, sym, _∙_, subst}
+use mathlib.Core.Logic.{by-cases}
+use mathlib.Core.Bool.{Bool, true, false, cond}
+use mathlib.Core.List.{List, [], _∷_, _++_}
 use Prim.Native.Nat.{ℕ, _≤_, _<_}
+use native.Mathlib.Decide.{ℕ-discrete}
 use native.Mathlib.Omega.{arith}
-use lib.ListN.{length}
-use borrow.Author.Tests.{lt-ltb, le-ltb, ne-eqb}
-use Rattle.commands.specs.Commands.{sizeOf, one, two, commandOf, parsed}
+use lib.Dec.{eqb}
+use lib.ListN.{length, getD, List·getD-append}
+use borrow.Author.Tests.{lt-ltb, le-ltb, ne-eqb, eqb-true, eqb-false}
+use Rattle.commands.specs.Commands.{sizeOf, longest, one, two, commandOf, parsed}
 use Rattle.commands.specs.declared.Command.{Command}
 use Rattle.commands.specs.declared.Command.the-variants.{NewPlan, SetShift, SetSymbol, MarkOne, MarkRun, Recover, Seal, Show, Figures, Straight, Powers, Ruler}
 use Rattle.commands.specs.declared.Parsed.the-variants.{Whole, Unknown, Short, Nothing}
@@ -114,3 +118,56 @@ pub whole : (s : List ℕ) {z : ℕ} {k : Command} → (length s ≡ 0 → ⊥) 
 unfolding parsed
 whole [] n e f h p = absurd (n refl)
 whole (b ∷ s) {z} n e f h p = simp (p, ← e, ne-eqb z 0 f, le-ltb (length (b ∷ s)) z h)
+
+-- the longest command
+pub size-most : (b : ℕ) → sizeOf b ≤ longest
+unfolding sizeOf
+size-most b = go (eqb b 0x01) (eqb b 0x02) (eqb b 0x03) (eqb b 0x04) (eqb b 0x05) (eqb b 0x06) (eqb b 0x07) (eqb b 0x08) (eqb b 0x09) (eqb b 0x0A) (eqb b 0x0B) (eqb b 0x0C)
+  where
+    either : (p : Bool) {x y : ℕ} → x ≤ 6 → y ≤ 6 → cond p x y ≤ 6
+    either true f g = f
+    either false f g = g
+
+    go : (a b c d e f g h i j k l : Bool) → cond a 4 (cond b 4 (cond c 4 (cond d 3 (cond e 5 (cond f 1 (cond g 1 (cond h 3 (cond i 1 (cond j 4 (cond k 6 (cond l 2 0))))))))))) ≤ 6
+    go a b c d e f g h i j k l =
+        either a (omega arith) (either b (omega arith) (either c (omega arith) (either d (omega arith) (either e (omega arith) (either f (omega arith) (either g (omega arith) (either h (omega arith) (either i (omega arith)
+        (either j (omega arith) (either k (omega arith) (either l (omega arith) (omega arith))))))))))))
+
+-- a command is read from its own bytes only
+operand : (a b : List ℕ) (i : ℕ) → i < length a → getD (a ++ b) i 0 ≡ getD a i 0
+operand a b i h = List·getD-append a b 0 i h
+
+pick : (p : Bool) {u v u' v' : Command} → (p ≡ true → u ≡ u') → (p ≡ false → v ≡ v') → cond p u v ≡ cond p u' v'
+pick true f g = f refl
+pick false f g = g refl
+
+ruler-size : sizeOf 0x0C ≡ 2
+unfolding sizeOf
+ruler-size = refl
+
+module _ (a b : List ℕ) (some : 0 < sizeOf (getD a 0 0)) (h : sizeOf (getD a 0 0) ≤ length a) where
+  long : (k : ℕ) → eqb (getD a 0 0) k ≡ true → sizeOf k ≤ length a
+  long k e = subst (λ x. sizeOf x ≤ length a) (eqb-true (getD a 0 0) k e) h
+
+  last : Other (getD a 0 0) → 2 ≤ length a
+  last o =
+      by-cases (ℕ-discrete (getD a 0 0) 0x0C)
+      (λ e. let l : sizeOf 0x0C ≤ length a = subst (λ x. sizeOf x ≤ length a) e h in omega (arith, ruler-size))
+      (λ n. let z = no-size (getD a 0 0) o n in absurd (omega arith))
+
+  pub command-prefix : commandOf (a ++ b) ≡ commandOf a
+  unfolding commandOf sizeOf
+  command-prefix =
+      rw (operand a b 0 (omega arith))
+      (pick (eqb (getD a 0 0) 0x01) (λ e. let l : 4 ≤ length a = long 0x01 e in rw (operand a b 1 (omega arith), operand a b 2 (omega arith), operand a b 3 (omega arith))) (λ e1.
+      (pick (eqb (getD a 0 0) 0x02) (λ e. let l : 4 ≤ length a = long 0x02 e in rw (operand a b 1 (omega arith), operand a b 2 (omega arith), operand a b 3 (omega arith))) (λ e2.
+      (pick (eqb (getD a 0 0) 0x03) (λ e. let l : 4 ≤ length a = long 0x03 e in rw (operand a b 1 (omega arith), operand a b 2 (omega arith), operand a b 3 (omega arith))) (λ e3.
+      (pick (eqb (getD a 0 0) 0x04) (λ e. let l : 3 ≤ length a = long 0x04 e in rw (operand a b 1 (omega arith), operand a b 2 (omega arith))) (λ e4.
+      (pick (eqb (getD a 0 0) 0x05) (λ e. let l : 5 ≤ length a = long 0x05 e in rw (operand a b 1 (omega arith), operand a b 2 (omega arith), operand a b 3 (omega arith), operand a b 4 (omega arith))) (λ e5.
+      (pick (eqb (getD a 0 0) 0x06) (λ e. refl) (λ e6.
+      (pick (eqb (getD a 0 0) 0x07) (λ e. refl) (λ e7.
+      (pick (eqb (getD a 0 0) 0x08) (λ e. let l : 3 ≤ length a = long 0x08 e in rw (operand a b 1 (omega arith), operand a b 2 (omega arith))) (λ e8.
+      (pick (eqb (getD a 0 0) 0x09) (λ e. refl) (λ e9.
+      (pick (eqb (getD a 0 0) 0x0A) (λ e. let l : 4 ≤ length a = long 0x0A e in rw (operand a b 1 (omega arith), operand a b 2 (omega arith), operand a b 3 (omega arith))) (λ e10.
+      (pick (eqb (getD a 0 0) 0x0B) (λ e. let l : 6 ≤ length a = long 0x0B e in rw (operand a b 1 (omega arith), operand a b 2 (omega arith), operand a b 3 (omega arith), operand a b 4 (omega arith), operand a b 5 (omega arith))) (λ e11.
+      let l = last (record { not-01 = eqb-false (getD a 0 0) 0x01 e1; not-02 = eqb-false (getD a 0 0) 0x02 e2; not-03 = eqb-false (getD a 0 0) 0x03 e3; not-04 = eqb-false (getD a 0 0) 0x04 e4; not-05 = eqb-false (getD a 0 0) 0x05 e5; not-06 = eqb-false (getD a 0 0) 0x06 e6; not-07 = eqb-false (getD a 0 0) 0x07 e7; not-08 = eqb-false (getD a 0 0) 0x08 e8; not-09 = eqb-false (getD a 0 0) 0x09 e9; not-0A = eqb-false (getD a 0 0) 0x0A e10; not-0B = eqb-false (getD a 0 0) 0x0B e11 }) in rw (operand a b 1 (omega arith))))))))))))))))))))))))

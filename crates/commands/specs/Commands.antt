@@ -18,6 +18,10 @@ sizeOf b =
     cond (eqb b 0x01) 4 (cond (eqb b 0x02) 4 (cond (eqb b 0x03) 4 (cond (eqb b 0x04) 3 (cond (eqb b 0x05) 5 (cond (eqb b 0x06) 1
     (cond (eqb b 0x07) 1 (cond (eqb b 0x08) 3 (cond (eqb b 0x09) 1 (cond (eqb b 0x0A) 4 (cond (eqb b 0x0B) 6 (cond (eqb b 0x0C) 2 0)))))))))))
 
+-- no command is longer (size-most)
+abbrev pub longest : ℕ
+longest = 6
+
 -- a byte, and a two-byte number, low byte first
 abbrev pub one : List ℕ → ℕ → ℕ
 one s i = getD s i 0

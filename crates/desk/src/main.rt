@@ -7,6 +7,7 @@ use libc::STDOUT_FILENO;
 use lines::LINE;
 use stream::Ask;
 use stream::Stream;
+use stream::Worked;
 use streaming::brought;
 use streaming::opened;
 use streaming::room;
@@ -36,15 +37,8 @@ fn write(stream: Stream, sheet: &[u8]) -> Stream {
     written(stream, done)
 }
 
-// The commands at hand, then what is asked for.
-fn turn(
-    stream: Stream,
-    block: &mut [u8],
-    marks: &mut [u8],
-    sheet: &mut [u8],
-    input: &mut [u8],
-) -> Next {
-    let worked = work(stream, block, marks, &mut sheet[..], &mut input[..]);
+// What is asked for.
+fn answer(worked: Worked, sheet: &[u8], input: &mut [u8]) -> Next {
     let here = worked.stream;
     let ask = worked.ask;
     match ask {
@@ -56,23 +50,23 @@ fn turn(
             stream: write(here, sheet),
             more: true,
         },
-        Ask::Closed => Next {
-            stream: here,
-            more: false,
-        },
-        Ask::Past => Next {
-            stream: here,
-            more: false,
-        },
-        Ask::Lost => Next {
-            stream: here,
-            more: false,
-        },
-        Ask::Bad(_) => Next {
+        _ => Next {
             stream: here,
             more: false,
         },
     }
+}
+
+// The commands at hand, then what is asked for.
+fn turn(
+    stream: Stream,
+    block: &mut [u8],
+    marks: &mut [u8],
+    sheet: &mut [u8],
+    input: &mut [u8],
+) -> Next {
+    let worked = work(stream, block, marks, &mut sheet[..], &mut input[..]);
+    answer(worked, sheet, input)
 }
 
 // A proved loop has to end, and nothing says that a job does: the turns are counted down from a number that no run uses up.

@@ -1,7 +1,7 @@
 // A job over lent buffers: its next command is read and performed, and its line written.
 // Entry: perform. take_turn is public for the crates above only.
 ghost use mathlib.Core.Path.{_≡_};
-ghost use mathlib.Core.Bool.{Bool, true, false};
+ghost use mathlib.Core.Bool.{Bool, true};
 ghost use mathlib.Core.List.{List};
 ghost use Prim.Native.Nat.{ℕ};
 ghost use lib.ListN.{length, getD};

@@ -7,3 +7,5 @@ pub mod Outcomes
 pub mod SomeFigures
 pub mod SomeRecovery
 pub mod Begins
+pub mod Performed
+pub mod PerformedLaws

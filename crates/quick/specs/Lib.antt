@@ -1,5 +1,3 @@
--- Commands performed one after another; those that come by the thousand.
-pub mod Performed
-pub mod PerformedLaws
+-- The commands that come by the thousand.
 pub mod Quick
 pub mod QuickLaws

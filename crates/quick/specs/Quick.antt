@@ -8,7 +8,7 @@ use lib.ListN.{length}
 use Rattle.pieces.specs.Pieces.{Appends}
 use Rattle.act.specs.Acts.{Kept}
 use Rattle.act.specs.declared.Held.{Held}
-use Rattle.quick.specs.Performed.{Performed}
+use Rattle.one_sheet.specs.Performed.{Performed}
 
 -- a plan of this many places is held
 pub record Places (places : ℕ) (h : Held) (v m : List ℕ) : Type 0 where

@@ -26,8 +26,8 @@ use Rattle.state.specs.Refusing.{early, refusalOf}
 use Rattle.act.specs.Acts.{stateOf, Acts}
 use Rattle.act.specs.ActLaws.{symbol-set, one-marked, run-marked, shown}
 use Rattle.act.specs.declared.Held.{Held}
-use Rattle.quick.specs.Performed.{none}
-use Rattle.quick.specs.PerformedLaws.{performed-one, performed-both}
+use Rattle.one_sheet.specs.Performed.{none}
+use Rattle.one_sheet.specs.PerformedLaws.{performed-one, performed-both}
 use Rattle.quick.specs.Quick.{Places, Quiet, Shows, Quick}
 
 -- ---- what stands at an index

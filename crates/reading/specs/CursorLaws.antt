@@ -30,13 +30,9 @@ hand-carried c buffer = front-is (take (c .end - c .at) (drop (c .at) buffer)) (
 
 -- ---- carried
 
-none-empty : (l : List ℕ) → length l ≡ 0 → l ≡ []
+pub none-empty : (l : List ℕ) → length l ≡ 0 → l ≡ []
 none-empty [] e = refl
 none-empty (x ∷ l) e = absurd (omega arith)
-
-carried-end : (c : Cursor) (buffer : List ℕ) → carriedOf c buffer .end ≡ length (hand c buffer)
-unfolding carriedOf
-carried-end c buffer = refl
 
 pub carried-none : (c : Cursor) (buffer : List ℕ) (e : ℕ) → e ≡ min (c .end) (length buffer) → e < c .at →
     (record { at = 0; end = 0; offset = c .offset } ≡ carriedOf c buffer) × (buffer ≡ hand c buffer ++ drop (length (hand c buffer)) buffer)

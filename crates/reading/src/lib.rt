@@ -1,5 +1,5 @@
 // A job read in parts: the bytes at hand stand in a buffer, and more are read behind them.
-// Entries: begin, carry. A cursor whose bounds pass the buffer or each other has only what stands within them at hand.
+// Entries: begin, carry; lower is public for the crates above only. A cursor whose bounds pass the buffer or each other has only what stands within them at hand.
 ghost use mathlib.Core.Path.{_≡_};
 ghost use mathlib.Core.List.{_++_};
 ghost use Prim.Native.Nat.{_-_, _≤_, min};
@@ -45,7 +45,7 @@ pub fn carry(cursor: Cursor, buffer: &mut [u8]) -> Cursor
     }
 }
 
-fn lower(a: usize, b: usize) -> usize
+pub fn lower(a: usize, b: usize) -> usize
     ensures { λ r. ⌜ r ≡ min a b ⌝ }
 {
     if a < b { a } else { b }

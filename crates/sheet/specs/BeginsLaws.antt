@@ -8,7 +8,6 @@ use lib.ListN.{length, take, length-append}
 use lib.Seq.{take-append-seam}
 use Rattle.state.specs.State.{State}
 use Rattle.act.specs.MeaningOnce.{Standing, means-once}
-use Rattle.turns.specs.Sheets as sheets
 use Rattle.turns.specs.Sheets.{Sheet, start}
 use Rattle.one_sheet.specs.OneSheet.{sheet-goes, sheet-once}
 use Rattle.one_sheet.specs.Begins.{begins-stands, begins-sheet}

@@ -22,7 +22,7 @@ use Rattle.code.specs.Marks.{markBytes, NoSpare}
 use Rattle.code.specs.Laws.MarksLaws.{markCount-zero}
 use Rattle.calls.specs.Calls.{noneFrom, spareClear, lentCheck, callCheck}
 use Rattle.calls.specs.CallsLaws.{spare-none, lent-pass, call-stop, call-next, call-passes, call-passed}
-use Rattle.bits.specs.ByteLaws.{none-marked}
+use Rattle.stretches.specs.ByteLaws.{none-marked}
 use Rattle.lines.specs.Lines.{lineLength}
 use Rattle.act.specs.Acts.{blockLength, marksLength, Kept}
 use Rattle.act.specs.declared.Held.{Held}

@@ -19,7 +19,7 @@ use Rattle.act.specs.declared.Held.{Held}
 use Rattle.turns.specs.Sheets.{Sheet}
 use Rattle.turns.specs.declared.Turn.{Turn}
 use Rattle.turns.specs.declared.Turn.the-variants.{Wait, End, Stop, On, Bad}
-use Rattle.quick.specs.Performed.{Performed}
+use Rattle.one_sheet.specs.Performed.{Performed}
 
 -- what is wanted after a turn. 0: nothing yet; 1: more bytes; 3: the job is closed. (2 is said before a turn: room on the sheet)
 abbrev pub haltOf : Turn → ℕ

@@ -28,8 +28,8 @@ use Rattle.turns.specs.Turns.{turnUsed, turnWrote, Same, Goes, Turns}
 use Rattle.turns.specs.declared.Turn.{Turn}
 use Rattle.turns.specs.declared.Turn.the-variants.{Wait, End, Stop, On}
 use Rattle.one_sheet.specs.ParsedLaws.{zero-one, nothing-empty, whole-size, parsed-prefix}
-use Rattle.quick.specs.Performed.{none}
-use Rattle.quick.specs.PerformedLaws.{performed-one, performed-both}
+use Rattle.one_sheet.specs.Performed.{none}
+use Rattle.one_sheet.specs.PerformedLaws.{performed-one, performed-both}
 use Rattle.quick.specs.Quick.{Quick}
 use Rattle.quick.specs.QuickLaws.{appends-room}
 use Rattle.stream.specs.Course.{haltOf, Waits, Closes, Course}

@@ -4,4 +4,6 @@ pub mod CourseLaws
 pub mod Streams
 pub mod Works
 pub mod WorksLaws
-pub mod Session
+pub mod Trace
+pub mod TraceLaws
+pub mod Theorems

@@ -10,6 +10,7 @@ use lib.ListN.{length, drop}
 use Rattle.io.specs.Counts.{clamped}
 use Rattle.refusals.specs.Refusals.{numberOf}
 use Rattle.refusals.specs.declared.Check.{Check}
+use Rattle.commands.specs.Commands.{longest}
 use Rattle.lines.specs.Lines.{lineLength}
 use Rattle.act.specs.Acts.{blockLength, marksLength}
 use Rattle.act.specs.declared.Held.{Held}
@@ -22,10 +23,6 @@ use Rattle.stream.specs.declared.Phase.{Phase}
 use Rattle.stream.specs.declared.Phase.the-variants as phase
 use Rattle.stream.specs.declared.Ask.{Ask}
 use Rattle.stream.specs.declared.Ask.the-variants as ask
-
--- no command is longer (size-most)
-abbrev pub longest : ℕ
-longest = 6
 
 -- a job begins: no plan, nothing read, nothing on the sheet
 abbrev pub openedAt : Stream
@@ -123,7 +120,8 @@ unfoldable pub takenOf : Stream → ℕ → Stream
 unfolding asksRead
 takenOf s n = cond (asksRead s && not (s .last)) (readOf s n) (lostOf s)
 
--- what the read answered: a negative number is an error; no read brings more than there was room for
+-- what the read answered: a negative number is an error, and so is a read that had no room, whose 0 is not the end of the input; no read brings more than there was room for
 unfoldable pub broughtOf : Stream → List ℕ → ℤ → Stream
 unfolding takenOf
-broughtOf s i got = cond (ltZ got (pos 0)) (lostOf s) (takenOf s (clamped got (length i - s .cursor .end)))
+broughtOf s i got =
+    cond (ltZ got (pos 0)) (lostOf s) (cond (ltb (s .cursor .end) (length i)) (takenOf s (clamped got (length i - s .cursor .end))) (lostOf s))

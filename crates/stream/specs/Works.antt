@@ -13,7 +13,7 @@ use Rattle.pieces.specs.Pieces.{Appends}
 use Rattle.lines.specs.Lines.{lineLength}
 use Rattle.act.specs.Acts.{stateOf, Kept}
 use Rattle.reading.specs.Cursors.{hand}
-use Rattle.quick.specs.Performed.{Performed}
+use Rattle.one_sheet.specs.Performed.{Performed}
 use Rattle.stream.specs.Course.{Waits, Closes}
 use Rattle.stream.specs.Streams.{streamCheck, askOf, tidy, tidyInput}
 use Rattle.stream.specs.declared.Stream.{Stream}

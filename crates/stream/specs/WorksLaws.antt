@@ -1,5 +1,5 @@
 -- How the library keeps what it promises of a job that is read in parts.
--- Main definition: Ready. Main results: stream-ready, ready-passes; went-all, went-cut; works-bad, works-passed; size-most; front-part, back-part; taken-filled, taken-last, taken-goes, taken-over.
+-- Main definition: Ready. Main results: stream-ready, ready-passes; went-all, went-cut; works-bad, works-passed; front-part, back-long; taken-filled, taken-last, taken-goes, taken-over.
 use mathlib.Core.Path.{_≡_, refl, sym, _∙_, ap, subst}
 use mathlib.Core.Logic.{inl, inr, by-cases, _≢_}
 use mathlib.Core.Bool.{Bool, true, false, cond, _&&_, not, true≢false}
@@ -16,6 +16,7 @@ use Rattle.math.specs.Tests.{and-left, and-right}
 use Rattle.io.specs.Counts.{clamped}
 use Rattle.refusals.specs.declared.Refusal.{Refusal}
 use Rattle.refusals.specs.declared.Check.the-variants as check
+use Rattle.commands.specs.Commands.{longest}
 use Rattle.lines.specs.Lines.{lineLength}
 use Rattle.state.specs.State.{State}
 use Rattle.act.specs.Acts.{Kept, blockLength, marksLength}
@@ -23,20 +24,17 @@ use Rattle.act.specs.declared.Held.{Held}
 use Rattle.standing.specs.StandingLaws.{state-passed, state-passes}
 use Rattle.reading.specs.Cursors.{hand}
 use Rattle.reading.specs.CursorLaws.{drop-take}
-use Rattle.quick.specs.Performed.{Performed}
-use Rattle.quick.specs.PerformedLaws.{performed-more}
-use Rattle.commands.specs.Commands.{sizeOf}
+use Rattle.one_sheet.specs.ParsedLaws.{zero-one}
+use Rattle.one_sheet.specs.Performed.{Performed}
+use Rattle.one_sheet.specs.PerformedLaws.{performed-more}
 use Rattle.stream.specs.Course.{Waits, Closes, Course}
-use Rattle.stream.specs.Streams.{longest, streamFits, streamCheck, phaseAfter, movedOf, askOf, goes, asksRead, tidy, tidyInput, lostOf, readOf, takenOf}
+use Rattle.stream.specs.Streams.{streamFits, streamCheck, phaseAfter, movedOf, askOf, goes, asksRead, tidy, tidyInput, lostOf, readOf, takenOf}
 use Rattle.stream.specs.Works.{topOffset, below, Went, Advances, Works}
 use Rattle.stream.specs.declared.Stream.{Stream}
 use Rattle.stream.specs.declared.Phase.{Phase}
 use Rattle.stream.specs.declared.Phase.the-variants.{Going, Closed, Past, Lost}
 use Rattle.stream.specs.declared.Ask.{Ask}
 use Rattle.stream.specs.declared.Ask.the-variants as ask
-
-zero-one : _≡_ {A = ℕ} 0 1 → ⊥
-zero-one e = omega arith
 
 -- ---- a lent state that passes
 
@@ -259,21 +257,6 @@ not-past e f = zero-one (cc)
 pub not-lost : {p : Phase} → p ≡ Lost → p ≢ Going
 not-lost e f = zero-one (cc)
 
--- ---- the longest command
-
-pub size-most : (b : ℕ) → sizeOf b ≤ longest
-unfolding sizeOf
-size-most b = go (eqb b 0x01) (eqb b 0x02) (eqb b 0x03) (eqb b 0x04) (eqb b 0x05) (eqb b 0x06) (eqb b 0x07) (eqb b 0x08) (eqb b 0x09) (eqb b 0x0A) (eqb b 0x0B) (eqb b 0x0C)
-  where
-    pick : (p : Bool) {x y : ℕ} → x ≤ 6 → y ≤ 6 → cond p x y ≤ 6
-    pick true f g = f
-    pick false f g = g
-
-    go : (a b c d e f g h i j k l : Bool) → cond a 4 (cond b 4 (cond c 4 (cond d 3 (cond e 5 (cond f 1 (cond g 1 (cond h 3 (cond i 1 (cond j 4 (cond k 6 (cond l 2 0))))))))))) ≤ 6
-    go a b c d e f g h i j k l =
-        pick a (omega arith) (pick b (omega arith) (pick c (omega arith) (pick d (omega arith) (pick e (omega arith) (pick f (omega arith) (pick g (omega arith) (pick h (omega arith) (pick i (omega arith)
-        (pick j (omega arith) (pick k (omega arith) (pick l (omega arith) (omega arith))))))))))))
-
 -- ---- parts of the buffers
 
 pub front-part : (x k : ℕ) (l : List ℕ) → x ≡ min k (length l) → take x l ≡ take k l
@@ -285,27 +268,17 @@ front-part x k l e =
 pub front-long : (x k : ℕ) (l : List ℕ) → x ≡ min k (length l) → x ≡ length (take x l)
 front-long x k l e = sym (length-take-le x l (omega arith))
 
-pub empty : (l : List ℕ) → length l ≡ 0 → l ≡ []
-empty [] e = refl
-empty (x ∷ l) e = absurd (omega arith)
-
-pub back-part : (x k : ℕ) (l : List ℕ) → x ≡ min k (length l) → take (length l - x) (drop x l) ≡ drop k l
-back-part x k l e =
-    take-all (length l - x) (drop x l) (omega (arith, length-drop x l))
-    ∙ by-cases (decLe k (length l))
-    (λ h. let f : x ≡ k = omega arith in ap (λ y. drop y l) f)
-    (λ n. empty (drop x l) (length-drop x l ∙ (omega arith)) ∙ sym (empty (drop k l) (length-drop k l ∙ (omega arith))))
-
-pub back-long : (x k : ℕ) (l : List ℕ) → x ≡ min k (length l) → length (take (length l - x) (drop x l)) ≡ length l - k
-back-long x k l e = ap length (back-part x k l e) ∙ length-drop k l
+-- what stands behind index k
+pub back-long : (k : ℕ) (l : List ℕ) → length (take (length l - k) (drop k l)) ≡ length l - k
+back-long k l = ap length (take-all (length l - k) (drop k l) (omega (arith, length-drop k l))) ∙ length-drop k l
 
 pub clamped-most : (z : ℤ) (n : ℕ) → clamped z n ≤ n
 clamped-most (pos k) n = omega arith
 clamped-most (negsuc k) n = omega arith
 
 -- what was read stands in the input
-pub clamped-fits : (z : ℤ) (x k n : ℕ) (l : List ℕ) → x ≡ min k (length l) → length l < 2 ^ 64 → k < 2 ^ 64 → n ≡ clamped z (length (take (length l - x) (drop x l))) → k + n < 2 ^ 64
-clamped-fits z x k n l e a b f = let c = clamped-most z (length (take (length l - x) (drop x l))) in let d = back-long x k l e in omega arith
+pub clamped-fits : (z : ℤ) (k n : ℕ) (l : List ℕ) → k < length l → length l < 2 ^ 64 → n ≡ clamped z (length (take (length l - k) (drop k l))) → k + n < 2 ^ 64
+clamped-fits z k n l h a f = let c = clamped-most z (length (take (length l - k) (drop k l))) in let d = back-long k l in omega arith
 
 -- ---- a read
 

@@ -16,6 +16,7 @@ use progress::perform_all;
 use reading::Cursor;
 use reading::begin;
 use reading::carry;
+use reading::lower;
 use refusals::Check;
 use standing::check_state;
 use stream::Ask;
@@ -27,7 +28,7 @@ use turns::start;
 mod progress;
 
 // The longest command: an input buffer has to hold it.
-pub const LONGEST: usize = 6;
+const LONGEST: usize = 6;
 
 // A job begins with no plan, nothing read and nothing on the sheet.
 pub fn opened() -> Stream
@@ -307,7 +308,7 @@ pub fn room(stream: Stream, input: &[u8]) -> usize
     lower(cursor.end, input.len())
 }
 
-// After a read from there on: the number of bytes that it put there, 0 at the end of the input, below 0 if it failed.
+// After a read from there on: the number of bytes that it put there, 0 at the end of the input, below 0 if it failed. Where there was no room, 0 is not the end.
 pub fn brought(stream: Stream, input: &[u8], got: isize) -> Stream
     ensures { λ r. ⌜ r ≡ broughtOf stream (now (input .entry)) got ⌝ }
 {
@@ -315,7 +316,10 @@ pub fn brought(stream: Stream, input: &[u8], got: isize) -> Stream
         return lost(stream);
     }
     let cursor = stream.cursor;
-    let end = lower(cursor.end, input.len());
+    let end = cursor.end;
+    if input.len() <= end {
+        return lost(stream);
+    }
     let count = io::count(got, &input[end..]);
     taken(stream, count)
 }
@@ -373,10 +377,4 @@ fn lost(stream: Stream) -> Stream
         phase: Phase::Lost,
         last: stream.last,
     }
-}
-
-fn lower(a: usize, b: usize) -> usize
-    ensures { λ r. ⌜ r ≡ min a b ⌝ }
-{
-    if a < b { a } else { b }
 }

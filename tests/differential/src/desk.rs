@@ -43,7 +43,8 @@ const KINDS: [(&str, usize); 6] = [
 ];
 
 #[derive(Default)]
-struct Met {
+pub struct Met {
+    jobs: usize,
     events: BTreeMap<Event, usize>,
     kinds: [usize; 6],
     mismatches: usize,
@@ -51,6 +52,7 @@ struct Met {
 
 impl Met {
     fn add(&mut self, other: Met) {
+        self.jobs += other.jobs;
         other.events.into_iter().for_each(|(event, count)| *self.events.entry(event).or_default() += count);
         (0..KINDS.len()).for_each(|i| self.kinds[i] += other.kinds[i]);
         self.mismatches += other.mismatches;
@@ -58,6 +60,7 @@ impl Met {
 
     /// One job, fixed or at random. It depends on the seed and its number alone.
     fn try_job(&mut self, fixed: &[Vec<u8>], seed: u64, number: usize) {
+        self.jobs += 1;
         let mut rng = Prng::of(Prng::of(seed ^ number as u64).next());
         let job = if number < fixed.len() { fixed[number].clone() } else { job_cases::random(&mut rng) };
         let wanted = job::sheet(&job);
@@ -103,7 +106,8 @@ impl Met {
     }
 
     /// The table, and whether all is well.
-    fn report(&self, jobs: usize) -> bool {
+    pub fn report(&self) -> bool {
+        println!("jobs, by {}", program::path().display());
         let mut enough = true;
         let mut cell = |what: &str, count: usize, least: usize| {
             enough &= count >= least;
@@ -115,14 +119,13 @@ impl Met {
         }
         let cells: Vec<String> = KINDS.iter().zip(self.kinds).map(|((what, least), count)| cell(what, count, *least)).collect();
         println!("jobs   {}", cells.join("; "));
-        println!("{jobs} jobs, {} mismatches", self.mismatches);
+        println!("{} jobs, {} mismatches", self.jobs, self.mismatches);
         enough && self.mismatches == 0
     }
 }
 
-/// All jobs, and whether all is well.
-pub fn run(seed: u64) -> bool {
-    println!("jobs, by {}", program::path().display());
+/// All jobs.
+pub fn run(seed: u64) -> Met {
     let fixed = job_cases::fixed();
     let jobs = fixed.len() + JOBS;
     let next = AtomicUsize::new(0);
@@ -141,5 +144,5 @@ pub fn run(seed: u64) -> bool {
         let workers: Vec<_> = (0..THREADS).map(|_| scope.spawn(work)).collect();
         workers.into_iter().for_each(|worker| met.add(worker.join().expect("a thread of jobs")));
     });
-    met.report(jobs)
+    met
 }

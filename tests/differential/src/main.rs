@@ -362,13 +362,13 @@ fn main() {
     println!("differential tests, seed {seed}");
     let start = std::time::Instant::now();
     let mut run = Run { rng: Prng::of(seed), cases: BTreeMap::new(), mismatches: 0 };
+    // the jobs are tried beside the cases
+    let jobs = std::thread::spawn(move || desk::run(seed));
     run.all();
-    let mut well = run.report();
+    let cases_well = run.report();
+    let jobs_well = jobs.join().expect("the thread of all jobs").report();
     println!("{:.1} s", start.elapsed().as_secs_f64());
-    let start = std::time::Instant::now();
-    well &= desk::run(seed);
-    println!("{:.1} s", start.elapsed().as_secs_f64());
-    if !well {
+    if !(cases_well && jobs_well) {
         println!("differential tests FAILED");
         std::process::exit(1);
     }

@@ -19,7 +19,16 @@ use turns::start;
 // No length of a line: the turn is another one.
 const NONE: usize = 99;
 
-// The length of the line that the turn writes; 0 where it waits.
+// The length of the line that a turn writes; 0 where it waits.
+fn line_of(turn: Turn) -> usize {
+    match turn {
+        Turn::End(length) => length,
+        Turn::Wait => 0,
+        _ => NONE,
+    }
+}
+
+// The length of the line that the library's turn writes.
 fn turn_parts(
     block: &mut [u8],
     marks: &mut [u8],
@@ -41,11 +50,7 @@ fn turn_parts(
         offset,
     );
     let turn = step.turn;
-    match turn {
-        Turn::End(length) => length,
-        Turn::Wait => 0,
-        _ => NONE,
-    }
+    line_of(turn)
 }
 
 fn turn_library(

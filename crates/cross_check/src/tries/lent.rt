@@ -24,6 +24,7 @@ use crate::tally::RECOVERED;
 use crate::tally::SEALED;
 use crate::tally::judged;
 use crate::tally::refusal;
+use answers::Recovery;
 use plan::Count;
 use plan::Plan;
 
@@ -84,7 +85,10 @@ fn recover_parts(
     let m = least(lens.marks, marks.len());
     let b = least(lens.block, block.len());
     let w = least(lens.list, list.len());
-    let answer = recovery::recover(plan, &mut block[0..b], &marks[0..m], &mut list[0..w]);
+    outcome_of(recovery::recover(plan, &mut block[0..b], &marks[0..m], &mut list[0..w]))
+}
+
+fn outcome_of(answer: Recovery) -> Outcome {
     Outcome {
         number: wide8(answer.number()),
         count: answer.count(),

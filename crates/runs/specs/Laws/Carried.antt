@@ -1,5 +1,5 @@
 -- A block that holds a message at its message places: what a codeword carries, and how many symbols that is.
--- Main results: carries-of, carries-agreeing, layout-count, plan-count.
+-- Main results: carries-of, carries-agreeing, plan-count.
 use mathlib.Core.Path.{_≡_, refl, sym, _∙_, ap₂}
 use mathlib.Core.List.{List, [], _∷_, map}
 use mathlib.Core.List.{List·Memᴰ·head as first, List·Memᴰ·tail as later}
@@ -35,10 +35,6 @@ module _ {L : Layout} (ok : Valid L) where
       (λ c m. let q = message-lists L ok .exact c .0 m in
       h .unmarked c (places-∈ L (q .inside) .0) (λ p. parity-lists L ok .exact c .0 p .lowest-of-none (q .lowest-of-some)))
       ∙ e)
-
-pub layout-count : (n t : ℕ) (p : List ℕ) → GoodPlan n t p → length (messages (layout n t p)) ≡ messageCount (layout n t p)
-unfolding layout
-layout-count n t p s = count-messages (layout n t p) (plan-valid s) refl (omega (arith, s .n-min))
 
 pub plan-count : (p : Plan) → planCheck p ≡ Pass → length (messages (layoutOf p)) ≡ messageCount (layoutOf p)
 unfolding layoutOf layout

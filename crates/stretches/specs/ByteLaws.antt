@@ -17,7 +17,7 @@ use borrow.Author.Tests.{eq-eqb, ne-eqb, eqb-true}
 use Rattle.code.specs.Codewords.{bitOf}
 use Rattle.code.specs.Marks.{mark, markCount}
 use Rattle.code.specs.Laws.MarksLaws.{mark-at, markCount-none, markCount-one, markCount-split, markCount-suc}
-use Rattle.bits.specs.Bits.{noneFrom}
+use Rattle.stretches.specs.Stretches.{noneFrom}
 
 pub ones-zero : ones 0 ≡ 0
 unfolding ones onesIn

@@ -1,8 +1,8 @@
 -- `count_marks` meets its contract: the parts add up. Assumes nothing.
 use borrow.Author.Needs.{needs}
-use Rattle.bits.specs.Stretches.{count-parts}
-use Rattle.bits.proofs.count_marks.Statement.{statement}
-use Rattle.bits.proofs.count_marks.Tie as tie
+use Rattle.stretches.specs.StretchLaws.{count-parts}
+use Rattle.stretches.proofs.count_marks.Statement.{statement}
+use Rattle.stretches.proofs.count_marks.Tie as tie
 
 returns : tie.Need-returns
 returns c =

@@ -1,9 +1,9 @@
 -- `low_bits` meets its contract: the bits above are shifted out. Assumes nothing.
 use borrow.Author.Needs.{needs}
 use native.Mathlib.Omega.{arith}
-use Rattle.bits.specs.Stretches.{low-bits, no-bits}
-use Rattle.bits.proofs.low_bits.Statement.{statement}
-use Rattle.bits.proofs.low_bits.Tie as tie
+use Rattle.stretches.specs.StretchLaws.{low-bits, no-bits}
+use Rattle.stretches.proofs.low_bits.Statement.{statement}
+use Rattle.stretches.proofs.low_bits.Tie as tie
 
 returns : tie.Need-returns
 returns c = no-bits _ _ (c .if1 .taken)

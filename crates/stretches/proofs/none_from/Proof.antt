@@ -2,10 +2,10 @@
 use mathlib.Core.Path.{sym, _∙_}
 use native.Mathlib.Omega.{arith}
 use borrow.Author.Needs.{needs}
-use Rattle.bits.specs.ByteLaws.{none-past, none-clear, none-set}
-use Rattle.bits.specs.Stretches.{zero-rest}
-use Rattle.bits.proofs.none_from.Statement.{statement}
-use Rattle.bits.proofs.none_from.Tie as tie
+use Rattle.stretches.specs.ByteLaws.{none-past, none-clear, none-set}
+use Rattle.stretches.specs.StretchLaws.{zero-rest}
+use Rattle.stretches.proofs.none_from.Statement.{statement}
+use Rattle.stretches.proofs.none_from.Tie as tie
 
 returns : tie.Need-returns
 returns c = sym (none-past _ _ (omega arith))

@@ -1,106 +1,47 @@
--- A program that does what it is asked, over any sequence of calls, reads and writes: what it has written is the sheet of what it has read.
--- Main definitions: Filled, endedBy, Session, Later, Stands, Roomy. Main results: session-sheet, session-begins, session-stands, session-passes; answer-asked, always-room, always-forward, read-ends.
+-- What holds all along of a program that does what it is asked.
+-- Main definition: Holds. Main results: trace-holds; ask-read, ask-closed, hand-moved.
 use mathlib.Core.Path.{_≡_, refl, sym, _∙_, ap, subst}
 use mathlib.Core.Logic.{_⊎_, inl, inr, ⊎-elim, _≢_}
 use mathlib.Core.Bool.{Bool, true, false, cond, _&&_, not, true≢false}
 use mathlib.Core.List.{List, [], _++_, append-assoc, append-nil}
 use Prim.Native.Nat.{ℕ, zero, suc, _+_, _-_, _≤_, _<_, min}
-use native.Mathlib.Nat.{add-assoc}
 use native.Mathlib.Omega.{arith}
 use lib.Dec.{ltb, eqb, leb}
 use lib.IntN.{ℤ, pos, negsuc}
-use borrow.Author.Tests.{ltb-true, ltb-false, lt-ltb, eqb-true, leb-true}
+use borrow.Author.Tests.{ltb-true, ltb-false, eqb-true, leb-true}
 use Rattle.math.specs.Tests.{and-left, and-right}
-use lib.ListN.{length, getD, take, drop, length-drop, length-append, take-append-drop}
+use lib.ListN.{length, take, drop, length-drop, length-append, take-append-drop}
 use lib.Seq.{drop-append-le, drop-drop, length-take-le, take-append-add, take-at, take-take}
 use Rattle.io.specs.Counts.{clamped}
 use Rattle.refusals.specs.RefusalLaws.{stop-or-pass}
-use Rattle.refusals.specs.declared.Refusal.{Refusal}
-use Rattle.refusals.specs.declared.Check.the-variants as check
-use Rattle.commands.specs.Commands.{sizeOf, parsed}
+use Rattle.refusals.specs.declared.Check.the-variants.{Pass}
+use Rattle.commands.specs.Commands.{longest, parsed}
 use Rattle.commands.specs.declared.Command.{Command}
 use Rattle.commands.specs.declared.Parsed.the-variants.{Whole}
-use Rattle.refusals.specs.declared.Check.the-variants.{Pass}
 use Rattle.state.specs.Refusing.{refusalOf}
 use Rattle.state.specs.State.{State}
 use Rattle.lines.specs.Lines.{lineLength}
 use Rattle.act.specs.Acts.{stateOf, blockLength, marksLength}
-use Rattle.act.specs.declared.Held.{Held}
 use Rattle.turns.specs.Sheets.{Sheet, start}
 use Rattle.one_sheet.specs.OneSheet.{one-sheet}
-use Rattle.one_sheet.specs.ParsedLaws.{zero-one, nothing-empty, short-long, whole-size}
-use Rattle.one_sheet.specs.Begins.{Begins, nothing-yet, one-more, begins-more, begins-sheet, begins-longer, held-start}
+use Rattle.one_sheet.specs.ParsedLaws.{zero-one}
+use Rattle.one_sheet.specs.Begins.{Begins, nothing-yet, begins-more, begins-sheet, begins-longer, held-start}
+use Rattle.one_sheet.specs.PerformedLaws.{performed-begins}
 use Rattle.reading.specs.Cursors.{hand, carriedOf}
-use Rattle.reading.specs.CursorLaws.{hand-carried, drop-take}
+use Rattle.reading.specs.CursorLaws.{hand-carried, drop-take, none-empty}
 use Rattle.reading.specs.declared.Cursor.{Cursor}
-use Rattle.quick.specs.Performed.{Performed, none, first}
-use Rattle.quick.specs.PerformedLaws.{performed-inside}
-use Rattle.stream.specs.Course.{Waits}
-use Rattle.stream.specs.Streams.{openedAt, streamCheck, askOf, phaseAsk, goes, asksRead, withCursor, tidy, tidyInput, lostOf, writtenOf, readOf, takenOf, broughtOf, longest}
-use Rattle.stream.specs.Works.{Went, Works, topOffset, below, lastBelow, Advances}
-use Rattle.stream.specs.WorksLaws.{Ready, stream-ready, ready-passes, size-most, clamped-most, empty}
+use Rattle.stream.specs.Streams.{openedAt, streamCheck, askOf, phaseAsk, goes, asksRead, withCursor, tidy, tidyInput, lostOf, writtenOf, readOf, takenOf, broughtOf}
+use Rattle.stream.specs.Works.{Went, Works, topOffset, below, lastBelow}
+use Rattle.stream.specs.WorksLaws.{Ready, stream-ready, not-closed, clamped-most}
+use Rattle.stream.specs.Trace.{Filled, endedBy, Trace, opens, works, writes, writes-some, reads, Later, Stands}
 use Rattle.stream.specs.declared.Stream.{Stream}
 use Rattle.stream.specs.declared.Phase.{Phase}
 use Rattle.stream.specs.declared.Phase.the-variants.{Going, Closed, Past, Lost}
 use Rattle.stream.specs.declared.Ask.{Ask}
 use Rattle.stream.specs.declared.Ask.the-variants as ask
 
--- ---- the first lines of a job, and commands performed
-
--- commands performed one after another are the next ones of the job
-performed-begins : {job b : List ℕ} (base : ℕ) → drop base job ≡ b → {h : Held} {v m : List ℕ} {at : ℕ} {text : List ℕ} {h' : Held} {v' m' : List ℕ} {at' : ℕ} {before : List ℕ} →
-    Begins job (base + at) (stateOf h v m) before → Performed b h v m at text h' v' m' at' → Begins job (base + at') (stateOf h' v' m') (before ++ text)
-performed-begins {job} base e {h} {v} {m} {at} {before = before} g none = subst (Begins job (base + at) (stateOf h v m)) (sym (append-nil before)) g
-performed-begins {job} {b} base e {h} {v} {m} {at} {h' = h'} {v'} {m'} {at'} {before} g (first c t u k w n p z a f) =
-    let size = sizeOf (getD (drop at b) 0 0) in
-    let here : drop (base + at) job ≡ drop at b = sym (drop-drop at base job) ∙ ap (drop at) e in
-    let whole : parsed (drop (base + at) job) ≡ Whole c = ap parsed here ∙ p in
-    let next : Begins job (base + at + size) (stateOf k w n) (before ++ t) =
-    subst (λ q. Begins job (base + at + sizeOf (getD q 0 0)) (stateOf k w n) (before ++ t)) here (one-more g c (stateOf k w n) t whole z (a .means)) in
-    subst (Begins job (base + at') (stateOf h' v' m')) (append-assoc before t u)
-    (performed-begins base e (subst (λ q. Begins job q (stateOf k w n) (before ++ t)) (add-assoc base at size) next) f)
-
--- ---- the program
-
--- a read into the room behind the bytes at hand, which is not empty (always-room), put `part` there; of what stands behind it nothing is known
-pub record Filled (s : Stream) (i : List ℕ) (got : ℤ) (part i' : List ℕ) : Type 0 where
-  pub room : s .cursor .end < length i
-  pub count : length part ≡ clamped got (length i' - s .cursor .end)
-  pub past : List ℕ
-  pub stands : i' ≡ take (s .cursor .end) i ++ (part ++ past)
-  pub long : length i' ≡ length i
-
--- a read that answered 0 has met the end of the input
-abbrev pub endedBy : Bool → ℤ → Bool
-endedBy ended (pos zero) = true
-endedBy ended (pos (suc k)) = ended
-endedBy ended (negsuc k) = ended
-
--- What a program has read (job), whether it has met the end of the input, what it has written (out), and how far the stream and the buffers have come.
--- It calls work, writes what waits, and reads where that is asked for; a write may fail half way.
-pub data Session : List ℕ → Bool → List ℕ → Stream → List ℕ → List ℕ → List ℕ → List ℕ → Type 0 where
-  opens : {v m l i : List ℕ} → Session [] false [] openedAt v m l i
-  works : {job : List ℕ} {ended : Bool} {out : List ℕ} {s : Stream} {v m l i : List ℕ} (a : Ask) (s' : Stream) (v' m' l' i' : List ℕ) → Session job ended out s v m l i →
-      Works s v m l i a s' v' m' l' i' → Session job ended out s' v' m' l' i'
-  writes : {job : List ℕ} {ended : Bool} {out : List ℕ} {s : Stream} {v m l i : List ℕ} → Session job ended out s v m l i → Session job ended (out ++ take (s .filled) l) (writtenOf s true) v m l i
-  writes-some : {job : List ℕ} {ended : Bool} {out : List ℕ} {s : Stream} {v m l i : List ℕ} (k : ℕ) → k ≤ s .filled → Session job ended out s v m l i →
-      Session job ended (out ++ take k l) (writtenOf s false) v m l i
-  reads : {job : List ℕ} {ended : Bool} {out : List ℕ} {s : Stream} {v m l i : List ℕ} (got : ℤ) (part i' : List ℕ) → askOf s ≡ ask.Read → Filled s i got part i' → Session job ended out s v m l i →
-      Session (job ++ part) (endedBy ended got) out (broughtOf s i' got) v m l i'
-
--- ---- what holds all along
-
--- the bytes that come later: none where the input has ended
-abbrev pub Later : Bool → List ℕ → Type 0
-Later ended later = ended ≡ true → later ≡ []
-
--- the state that a job was closed in: the commands before its offset were performed, and none goes on from there
-pub record Stands (job : List ℕ) (s : Stream) (v m : List ℕ) : Type 0 where
-  pub text : List ℕ
-  pub begins : Begins job (s .cursor .offset) (stateOf (s .held) v m) text
-  pub none-goes : (c : Command) → parsed (below (s .cursor .offset) (drop (s .cursor .offset) job)) ≡ Whole c → refusalOf (stateOf (s .held) v m) c ≢ Pass
-
-record Holds (job : List ℕ) (ended : Bool) (out : List ℕ) (s : Stream) (v m l i : List ℕ) : Type 0 where
+-- what holds all along
+pub record Holds (job : List ℕ) (ended : Bool) (out : List ℕ) (s : Stream) (v m l i : List ℕ) : Type 0 where
   pub last : s .last ≡ true → ended ≡ true
   pub ready : length v ≡ blockLength → length m ≡ marksLength → lineLength ≤ length l → longest ≤ length i → Ready s v m l i
   pub stands : s .phase ≡ Closed → Stands job s v m
@@ -118,12 +59,6 @@ begun-starts b later x t = let r = begins-sheet (begins-longer later b) t in (r 
 shut-starts : {job said x : List ℕ} → Sheet 0 start job said → Sheet 0 start job x → (rest : List ℕ) × (x ≡ said ++ rest)
 shut-starts {said = said} p q = ([], one-sheet q p ∙ sym (append-nil said))
 
-not-going : {p : Phase} → p ≡ Lost → p ≡ Going → ⊥
-not-going e f = zero-one (cc)
-
-not-closed : {p : Phase} → p ≡ Going → p ≡ Closed → ⊥
-not-closed e f = zero-one (cc)
-
 opens-holds : (v m l i : List ℕ) → Holds [] false [] openedAt v m l i
 unfolding hand
 opens-holds v m l i =
@@ -139,7 +74,7 @@ opens-holds v m l i =
 
 -- ---- work
 
-hand-moved : (c d : Cursor) (used : ℕ) (i : List ℕ) → d .at ≡ c .at + used → d .end ≡ c .end → hand d i ≡ drop used (hand c i)
+pub hand-moved : (c d : Cursor) (used : ℕ) (i : List ℕ) → d .at ≡ c .at + used → d .end ≡ c .end → hand d i ≡ drop used (hand c i)
 unfolding hand
 hand-moved c d used i e f =
     let g : c .end - (c .at + used) ≡ c .end - c .at - used = omega arith in
@@ -186,7 +121,7 @@ module _ {job : List ℕ} {ended : Bool} {out : List ℕ} {s : Stream} {v m l i 
       let none : lastBelow (s .last) o left ≡ true → past ++ later ≡ [] = λ z.
       let y = n (k .last (and-left (s .last) (leb (length left) (topOffset - o)) z)) in
       let x = leb-true (length left) (topOffset - o) (and-right (s .last) (leb (length left) (topOffset - o)) z) in
-      ap (λ q. q ++ later) (empty past (length-drop (topOffset - o) left ∙ (omega arith))) ∙ y in
+      ap (λ q. q ++ later) (none-empty past (length-drop (topOffset - o) left ∙ (omega arith))) ∙ y in
       subst (Sheet 0 start (job ++ later)) (sym went-text)
       (begins-more (begins-longer later went-begins) (w .said) (subst (λ x. Sheet o (stateOf (t .held) v' m') x (w .said)) (sym there) (w .closed f .sheet (past ++ later) none)))
 
@@ -253,7 +188,7 @@ tidy-holds {job} {ended} {out} {t} {v} {m} {l} {i} k = go (asksRead t) refl
               let u = hand-long (t .cursor) i (g .3) (g .4) in
               let q = k .ready b c d (omega arith) in
               record { kept = q .kept; sheet = d; input = f; ordered = omega arith; inside = carried-inside (t .cursor) i; waits = q .waits };
-          stands = λ f. absurd (not-closed (asks-going t e) f);
+          stands = λ f. absurd (not-closed f (asks-going t e));
           going = λ _. (g .0, g .1 ∙ sym (hand-carried (t .cursor) i), g .2, omega arith, carried-inside (t .cursor) i);
           closed = k .closed;
           starts = k .starts;
@@ -264,7 +199,7 @@ same-holds {job} {ended} {out} {s} {s'} {v} {m} {l} {i} {v'} {m'} {l'} {i'} a b 
     subst (λ (x : Stream). Holds job ended out x v' m' l' i') (sym a)
     (subst (λ x. Holds job ended out s x m' l' i') (sym b) (subst (λ x. Holds job ended out s v x l' i') (sym c) (subst (λ x. Holds job ended out s v m x i') (sym d) (subst (Holds job ended out s v m l) (sym e) k))))
 
-decGoing : (p : Phase) → (p ≡ Going) ⊎ (p ≢ Going)
+pub decGoing : (p : Phase) → (p ≡ Going) ⊎ (p ≢ Going)
 decGoing Going = inl refl
 decGoing Closed = inr (λ e. zero-one (cc))
 decGoing Past = inr (λ e. zero-one (cc))
@@ -315,7 +250,7 @@ some-holds {job} {ended} {out} {s} {v} {m} {l} {i} j h k =
 
 -- ---- reads
 
-ask-read : (s : Stream) → askOf s ≡ ask.Read → (ltb 0 (s .filled) ≡ false) × (s .phase ≡ Going)
+pub ask-read : (s : Stream) → askOf s ≡ ask.Read → (ltb 0 (s .filled) ≡ false) × (s .phase ≡ Going)
 unfolding askOf phaseAsk
 ask-read s e = go (ltb 0 (s .filled)) (s .phase) e
   where
@@ -326,7 +261,7 @@ ask-read s e = go (ltb 0 (s .filled)) (s .phase) e
     go false Past q = absurd (zero-one (cc))
     go false Lost q = absurd (zero-one (cc))
 
-nothing-waits : (s : Stream) (out l : List ℕ) → ltb 0 (s .filled) ≡ false → out ++ take (s .filled) l ≡ out ++ take 0 l
+pub nothing-waits : (s : Stream) (out l : List ℕ) → ltb 0 (s .filled) ≡ false → out ++ take (s .filled) l ≡ out ++ take 0 l
 nothing-waits s out l e = let z : s .filled ≡ 0 = omega (arith, ltb-false 0 (s .filled) e) in ap (λ n. out ++ take n l) z
 
 hand-read : (c : Cursor) (i part past i' : List ℕ) (n : ℕ) → c .at ≤ c .end → c .end ≤ length i → length part ≡ n → i' ≡ take (c .end) i ++ (part ++ past) →
@@ -344,14 +279,16 @@ hand-read c i part past i' n h g e f =
     ∙ ap (λ y. here ++ y) (take-at part past (length part) refl)
 
 -- the end of the input is met once
-still : (ended : Bool) (got : ℤ) → ended ≡ true → endedBy ended got ≡ true
-still ended (pos zero) e = refl
-still ended (pos (suc k)) e = e
-still ended (negsuc k) e = e
+still : (ended : Bool) (room : ℕ) (got : ℤ) → ended ≡ true → endedBy ended room got ≡ true
+still ended zero got e = e
+still ended (suc room) (pos zero) e = refl
+still ended (suc room) (pos (suc k)) e = e
+still ended (suc room) (negsuc k) e = e
 
-none-ended : (ended : Bool) (k room : ℕ) → min k room ≡ 0 → 0 < room → endedBy ended (pos k) ≡ true
-none-ended ended zero room e h = refl
-none-ended ended (suc k) room e h = absurd (omega arith)
+none-ended : (ended : Bool) (room k : ℕ) → 0 < room → min k room ≡ 0 → endedBy ended room (pos k) ≡ true
+none-ended ended zero k h e = absurd (omega arith)
+none-ended ended (suc room) zero h e = refl
+none-ended ended (suc room) (suc k) h e = absurd (omega arith)
 
 module _ {job : List ℕ} {ended : Bool} {out : List ℕ} {s : Stream} {v m l i : List ℕ} (k : Holds job ended out s v m l i) (e : askOf s ≡ ask.Read) (part i' : List ℕ) (long : length i' ≡ length i) where
   read-begins : Begins (job ++ part) (s .cursor .offset) (stateOf (s .held) v m) (out ++ take 0 l)
@@ -359,9 +296,9 @@ module _ {job : List ℕ} {ended : Bool} {out : List ℕ} {s : Stream} {v m l i 
       let q = ask-read s e in
       subst (Begins (job ++ part) (s .cursor .offset) (stateOf (s .held) v m)) (nothing-waits s out l (q .0)) (begins-longer part (k .going (q .1) .0))
 
-  lost-holds : (got : ℤ) → Holds (job ++ part) (endedBy ended got) out (lostOf s) v m l i'
-  lost-holds got = record {
-    last = λ z. still ended got (k .last z);
+  lost-holds : (room : ℕ) (got : ℤ) → Holds (job ++ part) (endedBy ended room got) out (lostOf s) v m l i'
+  lost-holds room got = record {
+    last = λ z. still ended room got (k .last z);
     ready = λ b c d f. let q = k .ready b c d (omega arith) in record { kept = q .kept; sheet = d; input = f; ordered = q .ordered; inside = omega (arith, q .inside); waits = omega arith };
     stands = λ f. absurd (zero-one (cc));
     going = λ f. absurd (zero-one (cc));
@@ -379,7 +316,7 @@ module _ {job : List ℕ} {ended : Bool} {out : List ℕ} {s : Stream} {v m l i 
       record {
         last = last;
         ready = λ b c y f. let z = k .ready b c y (omega arith) in record { kept = z .kept; sheet = y; input = f; ordered = omega (arith, z .ordered); inside = omega arith; waits = z .waits };
-        stands = λ f. absurd (not-closed (q .1) f);
+        stands = λ f. absurd (not-closed f (q .1));
         going = λ _. (
           begins,
           drop-append-le o job part (g .2) ∙ ap (λ y. y ++ part) (g .1) ∙ sym (hand-read (s .cursor) i part past i' n (g .3) (g .4) a b),
@@ -387,42 +324,50 @@ module _ {job : List ℕ} {ended : Bool} {out : List ℕ} {s : Stream} {v m l i 
           omega (arith, g .3),
           omega arith,
         );
-        closed = λ f. absurd (not-closed (q .1) f);
+        closed = λ f. absurd (not-closed f (q .1));
         starts = λ later x _ t. begun-starts begins later x t;
       }
 
-brought-holds : {job : List ℕ} {ended : Bool} {out : List ℕ} {s : Stream} {v m l i : List ℕ} → Holds job ended out s v m l i → askOf s ≡ ask.Read → (part i' : List ℕ) (got : ℤ) → Filled s i got part i' →
-    Holds (job ++ part) (endedBy ended got) out (broughtOf s i' got) v m l i'
+-- what a read leads to: the job is lost, or so many bytes more are at hand, where the read did not fail and there was room for it
+brought-cases : (s : Stream) (i : List ℕ) (got : ℤ) (P : Stream → Type 0) → P (lostOf s) → ((j : ℕ) → got ≡ pos j → s .cursor .end < length i → P (readOf s (min j (length i - s .cursor .end)))) → P (broughtOf s i got)
 unfolding broughtOf takenOf
-brought-holds k e part i' (negsuc j) r = lost-holds k e part i' (r .long) (negsuc j)
-brought-holds {job} {ended} {out} {s} {v} {m} {l} {i} k e part i' (pos j) r = sign (ltb j 0) refl
+brought-cases s i (negsuc j) P lost read = lost
+brought-cases s i (pos j) P lost read = sign (ltb j 0)
   where
-    n : ℕ
-    n = min j (length i' - s .cursor .end)
+    asked : s .cursor .end < length i → (b : Bool) → P (cond b (readOf s (min j (length i - s .cursor .end))) (lostOf s))
+    asked h true = read j refl h
+    asked h false = lost
 
-    some : 0 < length i' - s .cursor .end
-    some = omega (arith, r .room, r .long)
+    fits : (b : Bool) → ltb (s .cursor .end) (length i) ≡ b → P (cond b (cond (asksRead s && not (s .last)) (readOf s (min j (length i - s .cursor .end))) (lostOf s)) (lostOf s))
+    fits true f = asked (ltb-true (s .cursor .end) (length i) f) (asksRead s && not (s .last))
+    fits false f = lost
 
-    asked : (b : Bool) → Holds (job ++ part) (endedBy ended (pos j)) out (cond b (readOf s (min j (length i' - s .cursor .end))) (lostOf s)) v m l i'
-    asked true =
-        read-holds k e part i' (r .long) (min j (length i' - s .cursor .end)) (λ z. none-ended ended j (length i' - s .cursor .end) (eqb-true _ 0 z) some) (r .past) (r .count) (r .stands)
-        (clamped-most (pos j) (length i' - s .cursor .end)) (r .room)
-    asked false = lost-holds k e part i' (r .long) (pos j)
+    sign : (b : Bool) → P (cond b (lostOf s) (cond (ltb (s .cursor .end) (length i)) (cond (asksRead s && not (s .last)) (readOf s (min j (length i - s .cursor .end))) (lostOf s)) (lostOf s)))
+    sign true = lost
+    sign false = fits (ltb (s .cursor .end) (length i)) refl
 
-    sign : (b : Bool) → ltb j 0 ≡ b → Holds (job ++ part) (endedBy ended (pos j)) out (cond b (lostOf s) (cond (asksRead s && not (s .last)) (readOf s (min j (length i' - s .cursor .end))) (lostOf s))) v m l i'
-    sign true f = lost-holds k e part i' (r .long) (pos j)
-    sign false f = asked (asksRead s && not (s .last))
+brought-holds : {job : List ℕ} {ended : Bool} {out : List ℕ} {s : Stream} {v m l i : List ℕ} → Holds job ended out s v m l i → askOf s ≡ ask.Read → (part i' : List ℕ) (got : ℤ) → Filled s i got part i' →
+    Holds (job ++ part) (endedBy ended (length i - s .cursor .end) got) out (broughtOf s i' got) v m l i'
+brought-holds {job} {ended} {out} {s} {v} {m} {l} {i} k e part i' got r =
+    let room = length i - s .cursor .end in
+    brought-cases s i' got (λ (x : Stream). Holds (job ++ part) (endedBy ended room got) out x v m l i') (lost-holds k e part i' (r .long) room got)
+    (λ j f h.
+    let n = min j (length i' - s .cursor .end) in
+    let all : length part ≡ n = r .count ∙ ap (λ x. clamped x (length i' - s .cursor .end)) f in
+    let met : eqb n 0 ≡ true → endedBy ended room got ≡ true = λ z.
+    ap (endedBy ended room) f ∙ none-ended ended room j (omega (arith, r .long)) (ap (λ x. min j (x - s .cursor .end)) (sym (r .long)) ∙ eqb-true n 0 z) in
+    read-holds k e part i' (r .long) n met (r .past) all (r .stands) (clamped-most (pos j) (length i' - s .cursor .end)) (omega (arith, r .long)))
 
--- ---- the theorems
+-- ---- all along
 
-session-holds : {job : List ℕ} {ended : Bool} {out : List ℕ} {s : Stream} {v m l i : List ℕ} → Session job ended out s v m l i → Holds job ended out s v m l i
-session-holds (opens {v = v} {m} {l} {i}) = opens-holds v m l i
-session-holds (works a s' v' m' l' i' p w) = works-holds (session-holds p) w
-session-holds (writes p) = written-holds (session-holds p)
-session-holds (writes-some j h p) = some-holds j h (session-holds p)
-session-holds (reads got part i' e r p) = brought-holds (session-holds p) e part i' got r
+pub trace-holds : {job : List ℕ} {ended : Bool} {out : List ℕ} {s : Stream} {v m l i : List ℕ} → Trace job ended out s v m l i → Holds job ended out s v m l i
+trace-holds (opens {v = v} {m} {l} {i}) = opens-holds v m l i
+trace-holds (works a s' v' m' l' i' p w) = works-holds (trace-holds p) w
+trace-holds (writes p) = written-holds (trace-holds p)
+trace-holds (writes-some j h p) = some-holds j h (trace-holds p)
+trace-holds (reads got part i' e r p) = brought-holds (trace-holds p) e part i' got r
 
-ask-closed : (s : Stream) → askOf s ≡ ask.Closed → (ltb 0 (s .filled) ≡ false) × (s .phase ≡ Closed)
+pub ask-closed : (s : Stream) → askOf s ≡ ask.Closed → (ltb 0 (s .filled) ≡ false) × (s .phase ≡ Closed)
 unfolding askOf phaseAsk
 ask-closed s e = go (ltb 0 (s .filled)) (s .phase) e
   where
@@ -432,155 +377,3 @@ ask-closed s e = go (ltb 0 (s .filled)) (s .phase) e
     go false Closed q = (refl, refl)
     go false Past q = absurd (zero-one (cc))
     go false Lost q = absurd (zero-one (cc))
-
--- where nothing more is wanted and the job is closed, what was written is the sheet of the job, whatever parts it was read in: of what was read where the input has ended, and otherwise (a refusal) with whatever comes later
-pub session-sheet : {job : List ℕ} {ended : Bool} {out : List ℕ} {s : Stream} {v m l i : List ℕ} → Session job ended out s v m l i → askOf s ≡ ask.Closed → (later : List ℕ) → Later ended later → Sheet 0 start (job ++ later) out
-session-sheet {job} {ended} {out} {s} {l = l} p e later n =
-    let q = ask-closed s e in
-    subst (Sheet 0 start (job ++ later)) (nothing-waits s out l (q .0) ∙ append-nil out) (session-holds p .closed (q .1) later n)
-
--- at any time, whatever comes later, what was written is the first part of the job's sheet
-pub session-begins : {job : List ℕ} {ended : Bool} {out : List ℕ} {s : Stream} {v m l i : List ℕ} → Session job ended out s v m l i → (later x : List ℕ) → Later ended later → Sheet 0 start (job ++ later) x → (rest : List ℕ) × (x ≡ out ++ rest)
-session-begins {out = out} {s} {l = l} p later x n t =
-    let r = session-holds p .starts later x n t in
-    (take (s .filled) l ++ r .0, r .1 ∙ append-assoc out (take (s .filled) l) (r .0))
-
--- where the job is closed, the state is the one in which no command went on: earlier commands stand, and a refused one changed nothing
-pub session-stands : {job : List ℕ} {ended : Bool} {out : List ℕ} {s : Stream} {v m l i : List ℕ} → Session job ended out s v m l i → askOf s ≡ ask.Closed → Stands job s v m
-session-stands {s = s} p e = session-holds p .stands (ask-closed s e .1)
-
--- and where the buffers have their lengths no call is refused
-pub session-passes : {job : List ℕ} {ended : Bool} {out : List ℕ} {s : Stream} {v m l i : List ℕ} → Session job ended out s v m l i → length v ≡ blockLength → length m ≡ marksLength →
-    lineLength ≤ length l → longest ≤ length i → streamCheck s v m l i ≡ check.Pass
-session-passes {s = s} {v} {m} {l} {i} p a b c d = ready-passes s v m l i (session-holds p .ready a b c d)
-
--- ---- every call goes on
-
-waits-few : (b : List ℕ) → Waits b → length b < longest
-waits-few b w =
-    ⊎-elim
-    (λ e. let f = ap length (nothing-empty b e) in omega arith)
-    (λ e. let f = short-long b e in omega (arith, size-most (getD b 0 0)))
-    w
-
-asks-read : (s : Stream) → ltb 0 (s .filled) ≡ false → s .phase ≡ Going → asksRead s ≡ true
-unfolding asksRead goes
-asks-read s e f = rw (e, f)
-
-tidy-asks : (t : Stream) (i : List ℕ) → askOf (tidy t i) ≡ askOf t
-unfolding tidy askOf
-tidy-asks t i = go (asksRead t)
-  where
-    go : (b : Bool) → askOf (cond b (withCursor t (carriedOf (t .cursor) i)) t) ≡ askOf t
-    go true = refl
-    go false = refl
-
-tidy-is : (t : Stream) (i : List ℕ) → asksRead t ≡ true → (tidy t i ≡ withCursor t (carriedOf (t .cursor) i)) × (tidyInput t i ≡ hand (t .cursor) i ++ drop (length (hand (t .cursor) i)) i)
-unfolding tidy tidyInput
-tidy-is t i e = (rw e, rw e)
-
--- after "more input" nothing waits, the input has not ended, and less than the longest command is at hand (at most five bytes), which stands at the front of the input
-pub record Roomy (s : Stream) (i : List ℕ) : Type 0 where
-  pub written : s .filled ≡ 0
-  pub more : s .last ≡ false
-  pub front : s .cursor .at ≡ 0
-  pub few : s .cursor .end < longest
-  pub room : s .cursor .end < length i
-
-module _ {s : Stream} {v m l i : List ℕ} {a : Ask} {s' : Stream} {v' m' l' i' : List ℕ} (w : Works s v m l i a s' v' m' l' i') where
-  -- the call passed: what was wanted then
-  passed : (x : Ask) → a ≡ x → ((y : Refusal) → x ≡ ask.Bad y → ⊥) → Ready s v m l i × ((t : Stream) × Advances s v m l i t v' m' l' × (askOf t ≡ x) × (s' ≡ tidy t i) × (i' ≡ tidyInput t i))
-  passed x e n =
-      ⊎-elim
-      (λ pass. let q = w .passed pass in (stream-ready s v m l i pass, (q .0, q .1, sym (q .2) ∙ e, q .3, q .4)))
-      (λ stop. let q = w .bad (stop .0) (stop .1) in absurd (n (stop .0) (sym e ∙ q .0)))
-      (stop-or-pass (streamCheck s v m l i))
-
-  -- the answer is what the stream that is handed back wants
-  pub answer-asked : ((y : Refusal) → a ≡ ask.Bad y → ⊥) → askOf s' ≡ a
-  unfolding askOf tidy
-  answer-asked n =
-      let q = passed a refl n in
-      ap askOf (q .1 .3) ∙ tidy-asks (q .1 .0) i ∙ q .1 .2
-
-  pub always-room : a ≡ ask.Read → Roomy s' i'
-  unfolding carriedOf
-  always-room e =
-      let q = passed ask.Read e (λ y f. zero-one (cc)) in
-      let r = q .0 in
-      let t = q .1 .0 in
-      let z = ask-read t (q .1 .2) in
-      let g : s .phase ≡ Going = ⊎-elim (λ y. y) (λ y. ap (λ (x : Stream). x .phase) (sym (q .1 .1 .over y .0)) ∙ z .1) (decGoing (s .phase)) in
-      let k = q .1 .1 .goes g in
-      let o : t .filled ≡ 0 = omega (arith, ltb-false 0 (t .filled) (z .0)) in
-      let u = tidy-is t i (asks-read t (z .0) (z .1)) in
-      let c = hand-moved (s .cursor) (t .cursor) (k .used) i (k .at) (k .end) in
-      let f : (s .last ≡ false) × Waits (drop (k .used) (hand (s .cursor) i)) = ⊎-elim (λ x. (x .0, x .2)) (λ x. absurd (omega (arith, r .sheet))) (k .going (z .1) .1) in
-      let few : length (hand (t .cursor) i) < longest = subst (λ x. length x < longest) (sym c) (waits-few (drop (k .used) (hand (s .cursor) i)) (f .1)) in
-      let long : length (hand (t .cursor) i ++ drop (length (hand (t .cursor) i)) i) ≡ length i =
-      length-append (hand (t .cursor) i) (drop (length (hand (t .cursor) i)) i) ∙ (let d = length-drop (length (hand (t .cursor) i)) i in omega (arith, r .input)) in
-      subst (λ (x : Stream). Roomy x i') (sym (q .1 .3 ∙ u .0)) (subst (λ x. Roomy (withCursor t (carriedOf (t .cursor) i)) x) (sym (q .1 .4 ∙ u .1)) (record {
-        written = o;
-        more = k .last ∙ f .0;
-        front = refl;
-        few = few;
-        room = omega (arith, r .input);
-      }))
-
--- text is written by commands only
-performed-some : {b : List ℕ} {h : Held} {v m : List ℕ} {at : ℕ} {text : List ℕ} {h' : Held} {v' m' : List ℕ} {at' : ℕ} → Performed b h v m at text h' v' m' at' → at ≤ length b →
-    0 < length text → at < at'
-performed-some none l h = absurd (omega arith)
-performed-some {b} {at = at} (first c t u k w n p z a f) l h =
-    let y = whole-size (drop at b) c p in
-    let d = length-drop at b in
-    let r = performed-inside f (omega arith) in
-    omega (arith, r .0)
-
-asks-write : (t : Stream) → askOf t ≡ ask.Write → 0 < t .filled
-unfolding askOf phaseAsk
-asks-write t e = go (ltb 0 (t .filled)) (t .phase) refl e
-  where
-    go : (b : Bool) (p : Phase) → ltb 0 (t .filled) ≡ b → cond b ask.Write (phaseAsk p) ≡ ask.Write → 0 < t .filled
-    go true p f q = ltb-true 0 (t .filled) f
-    go false Going f q = absurd (zero-one (cc))
-    go false Closed f q = absurd (zero-one (cc))
-    go false Past f q = absurd (zero-one (cc))
-    go false Lost f q = absurd (zero-one (cc))
-
-tidy-other : (t : Stream) (i : List ℕ) → 0 < t .filled → tidy t i ≡ t
-unfolding tidy asksRead
-tidy-other t i h = rw (lt-ltb 0 (t .filled) h)
-
-module _ {s : Stream} {v m l i : List ℕ} {t : Stream} {v' m' l' : List ℕ} (k : Went s v m l i t v' m' l') (o : s .filled ≡ 0) (some : 0 < t .filled) where
-  forward : k .said ≡ [] → s .cursor .offset < t .cursor .offset
-  forward e =
-      let a : length (k .text ++ k .said) ≡ length (k .text) = ap (λ x. length (k .text ++ x)) e ∙ ap length (append-nil (k .text)) in
-      let f = performed-some (k .performed) (omega arith) (omega (arith, k .wrote .past)) in
-      omega (arith, k .offset)
-
-  forward-by : (p : Phase) → t .phase ≡ p → (t .phase ≡ Closed) ⊎ (s .cursor .offset < t .cursor .offset)
-  forward-by Going f = inr (forward (k .going f .0))
-  forward-by Past f = inr (forward (k .past f .0))
-  forward-by Closed f = inl f
-  forward-by Lost f = absurd (k .not-lost f)
-
--- with nothing waiting before it, a call after which lines wait has performed a command, or closed the job
-pub always-forward : {s : Stream} {v m l i : List ℕ} {s' : Stream} {v' m' l' i' : List ℕ} → Works s v m l i ask.Write s' v' m' l' i' → s .filled ≡ 0 →
-    (s' .phase ≡ Closed) ⊎ (s .cursor .offset < s' .cursor .offset)
-always-forward {s} {i = i} {s'} w o =
-    let q = passed w ask.Write refl (λ y f. zero-one (cc)) in
-    let t = q .1 .0 in
-    let some : 0 < t .filled = asks-write t (q .1 .2) in
-    let same : s' ≡ t = q .1 .3 ∙ tidy-other t i some in
-    let g : s .phase ≡ Going = ⊎-elim (λ y. y) (λ y. absurd (let z = ap (λ (x : Stream). x .filled) (q .1 .1 .over y .0) in omega arith)) (decGoing (s .phase)) in
-    subst (λ (x : Stream). (x .phase ≡ Closed) ⊎ (s .cursor .offset < x .cursor .offset)) (sym same) (forward-by (q .1 .1 .goes g) o some (t .phase) refl)
-
--- a read of 0 bytes that was asked for ends the input
-pub read-ends : (s : Stream) (i : List ℕ) → askOf s ≡ ask.Read → s .last ≡ false → broughtOf s i (pos 0) .last ≡ true
-unfolding broughtOf takenOf
-read-ends s i e f =
-    let q = ask-read s e in
-    let r = asks-read s (q .0) (q .1) in
-    let z : min 0 (length i - s .cursor .end) ≡ 0 = omega arith in
-    rw (r, f, z)

@@ -4,9 +4,9 @@ use Prim.Native.Nat.{_+_, _-_, _*_, _≤_}
 use native.Mathlib.Omega.{arith}
 use borrow.Author.Needs.{needs}
 use Rattle.code.specs.Marks.{markCount}
-use Rattle.bits.specs.Stretches.{count-bytes, count-none-yet}
-use Rattle.bits.proofs.ones_in.Statement.{statement}
-use Rattle.bits.proofs.ones_in.Tie as tie
+use Rattle.stretches.specs.StretchLaws.{count-bytes, count-none-yet}
+use Rattle.stretches.proofs.ones_in.Statement.{statement}
+use Rattle.stretches.proofs.ones_in.Tie as tie
 
 abbrev Inv-loop : tie.InvT-loop
 Inv-loop marks i n sum₀ j₀ sum j = (j ≤ n) × (sum ≤ 8 * j) × (sum ≡ markCount marks (8 * i) (8 * j))

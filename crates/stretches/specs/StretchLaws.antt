@@ -21,8 +21,8 @@ use Rattle.slices.specs.Zeros.{allZero, allZero-at, at-allZero}
 use Rattle.code.specs.Codewords.{bitOf}
 use Rattle.code.specs.Marks.{mark, markCount}
 use Rattle.code.specs.Laws.MarksLaws.{mark-bit, markCount-none, markCount-split, markCount-zero, markCount-byte, markCount-bytes}
-use Rattle.bits.specs.Bits.{noneFrom, noneIn, onesOf}
-use Rattle.bits.specs.ByteLaws.{ones-zero, ones-none, part-count, count-none}
+use Rattle.stretches.specs.Stretches.{noneFrom, noneIn, onesOf}
+use Rattle.stretches.specs.ByteLaws.{ones-zero, ones-none, part-count, count-none}
 
 -- ---- what they say, place by place
 

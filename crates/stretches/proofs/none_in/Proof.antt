@@ -2,9 +2,9 @@
 use mathlib.Core.Path.{refl}
 use borrow.Author.Needs.{needs}
 use borrow.Author.Tests.{not-true, not-false}
-use Rattle.bits.specs.Stretches.{none-first, none-middle, none-last}
-use Rattle.bits.proofs.none_in.Statement.{statement}
-use Rattle.bits.proofs.none_in.Tie as tie
+use Rattle.stretches.specs.StretchLaws.{none-first, none-middle, none-last}
+use Rattle.stretches.proofs.none_in.Statement.{statement}
+use Rattle.stretches.proofs.none_in.Tie as tie
 
 returns : tie.Need-returns
 returns c = none-first (c .before .before .before .cut-of .ensures) _ (c .before .part .ensures) refl (c .if1 .taken)

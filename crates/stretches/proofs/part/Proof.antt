@@ -1,8 +1,8 @@
 -- `part` meets its contract: no bits past the last byte, else those of the byte. Assumes nothing.
 use borrow.Author.Needs.{needs}
-use Rattle.bits.specs.Stretches.{past-bits}
-use Rattle.bits.proofs.part.Statement.{statement}
-use Rattle.bits.proofs.part.Tie as tie
+use Rattle.stretches.specs.StretchLaws.{past-bits}
+use Rattle.stretches.proofs.part.Statement.{statement}
+use Rattle.stretches.proofs.part.Tie as tie
 
 returns : tie.Need-returns
 returns c = let a = c .before .before .args in past-bits (a .marks .now) (a .i) (a .b) (a .k) (c .if1 .taken)
