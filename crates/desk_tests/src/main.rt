@@ -3,14 +3,10 @@
 ghost use Prim.Native.Nat.{ℕ, _%_, _<_, _≤_};
 ghost use mathlib.Core.Path.{_≡_};
 ghost use lib.ListN.{getD};
-use act::BLOCK;
-use act::MARKS;
-use job::perform;
 use libc::STDIN_FILENO;
 use libc::STDOUT_FILENO;
-use lines::LINE;
-use turns::Turn;
-use turns::start;
+use sheet::Ran;
+use sheet::run;
 
 // A longer line is given as its length and a checksum.
 const LONGEST: usize = 120;
@@ -19,6 +15,9 @@ const LONGEST: usize = 120;
 const INPUT: usize = 16384;
 
 const JOB: usize = 256;
+
+// The sheet of every job that stands there is shorter than this.
+const SHEET: usize = 65536;
 
 // An odd number of digits, more than a job holds.
 const MALFORMED: usize = 18446744073709551615;
@@ -60,79 +59,12 @@ fn put(line: &[u8], length: usize) {
     }
 }
 
-// The length of the line that a turn wrote.
-fn written(turn: Turn) -> usize {
-    match turn {
-        Turn::On(_, length) => length,
-        Turn::End(length) => length,
-        Turn::Stop(_, length) => length,
-        Turn::Wait => 0,
-        Turn::Bad(_) => 0,
+// The length of a sheet; 0 where it did not fit.
+fn length(ran: Ran) -> usize {
+    match ran {
+        Ran::Whole(all) => all,
+        Ran::Full(_) => 0,
     }
-}
-
-// The bytes that a command took; 0 where the job is at its end.
-fn used(turn: Turn) -> usize {
-    match turn {
-        Turn::On(bytes, _) => bytes,
-        _ => 0,
-    }
-}
-
-// Where the job goes on.
-fn next(at: usize, bytes: usize, end: usize) -> usize
-    requires { ⌜ at ≤ end ⌝ }
-    ensures { λ r. ⌜ r ≤ end ⌝ }
-{
-    if end - at < bytes {
-        return end;
-    }
-    at + bytes
-}
-
-// The turns that are left: none after one that took nothing.
-fn fewer(left: usize, bytes: usize) -> usize
-    requires { ⌜ 0 < left ⌝ }
-    ensures { λ r. ⌜ r < left ⌝ }
-{
-    if bytes == 0 {
-        return 0;
-    }
-    left - 1
-}
-
-// Performs the job. No job has more commands than bytes.
-fn sheet(job: &[u8], block: &mut [u8], marks: &mut [u8], line: &mut [u8]) {
-    let mut held = start();
-    let mut at = 0;
-    let mut left = JOB + 1;
-    while 0 < left {
-        let step = perform(
-            held,
-            &mut block[..],
-            &mut marks[..],
-            &mut line[..],
-            &job[at..],
-            true,
-            at as u64,
-        );
-        held = step.held;
-        let turn = step.turn;
-        let bytes = used(turn);
-        put(line, written(turn));
-        at = next(at, bytes, job.len());
-        left = fewer(left, bytes);
-    }
-}
-
-fn show(name: &[u8], job: &[u8]) {
-    io::write_all(STDOUT_FILENO, b"-- ");
-    io::write_all(STDOUT_FILENO, name);
-    io::write_all(STDOUT_FILENO, b"\n");
-    let mut block = [0u8; BLOCK];
-    let mut marks = [0u8; MARKS];
-    let mut line = [0u8; LINE];
-    sheet(job, &mut block, &mut marks, &mut line);
 }
 
 // The index of the first byte of `s` that equals `b`, or the length of `s` where there is none.
@@ -149,6 +81,48 @@ fn find(s: &[u8], b: u8) -> usize
         i += 1;
     }
     i
+}
+
+// The first line of a sheet, and its length without the line feed.
+fn put_line(sheet: &[u8]) -> usize
+    ensures { λ r. do ⌜ r ≤ (← ⟦sheet.len()⟧ .entry) ⌝ }
+{
+    let end = find(sheet, b'\n');
+    if end == sheet.len() {
+        return end;
+    }
+    put(sheet, end + 1);
+    end
+}
+
+// Every line of a sheet.
+fn put_sheet(sheet: &[u8]) {
+    let mut at = 0;
+    while at < sheet.len() {
+        at += put_line(&sheet[at..]);
+        if at == sheet.len() {
+            return;
+        }
+        at += 1;
+    }
+}
+
+// A sheet of this length.
+fn put_front(sheet: &[u8], all: usize) {
+    if sheet.len() < all {
+        return;
+    }
+    put_sheet(&sheet[0..all]);
+}
+
+// Performs the job and writes its sheet.
+fn show(name: &[u8], job: &[u8]) {
+    io::write_all(STDOUT_FILENO, b"-- ");
+    io::write_all(STDOUT_FILENO, name);
+    io::write_all(STDOUT_FILENO, b"\n");
+    let mut sheet = [0u8; SHEET];
+    let all = length(run(job, &mut sheet));
+    put_front(&sheet, all);
 }
 
 // The value of a hex digit; 16 where it is none.
