@@ -1,10 +1,10 @@
 // A job read in parts: the bytes at hand stand in a buffer, and more are read behind them.
-// Entries: begin, carry; lower is public for the crates above only. A cursor whose bounds pass the buffer or each other has only what stands within them at hand.
+// Entries: begin, carry; reach and lower are public for the crates above only. A cursor whose bounds pass the buffer or each other has only what stands within them at hand.
 ghost use mathlib.Core.Path.{_≡_};
 ghost use mathlib.Core.List.{_++_};
 ghost use Prim.Native.Nat.{_-_, _≤_, min};
 ghost use lib.ListN.{length, take, drop};
-ghost use Rattle.reading.specs.Cursors.{hand, atStart, carriedOf};
+ghost use Rattle.reading.specs.Cursors.{hand, atStart, carriedOf, reachOf};
 
 // The bytes at hand stand from `at` to `end`; `offset`: where the first of them stands in the job.
 pub struct Cursor {
@@ -43,6 +43,15 @@ pub fn carry(cursor: Cursor, buffer: &mut [u8]) -> Cursor
         end: end - at,
         offset: cursor.offset,
     }
+}
+
+// How far the bytes at hand stand below offset 2^64 - 1: the index of the first one that does not, or the end.
+pub fn reach(cursor: Cursor) -> usize
+    requires { ⌜ cursor .at ≤ cursor .end ⌝ }
+    ensures { λ r. ⌜ r ≡ reachOf cursor ⌝ }
+{
+    let most = u64::MAX - cursor.offset;
+    cursor.at + lower(cursor.end - cursor.at, most as usize)
 }
 
 pub fn lower(a: usize, b: usize) -> usize

@@ -27,11 +27,11 @@ use Rattle.one_sheet.specs.OneSheet.{one-sheet}
 use Rattle.one_sheet.specs.ParsedLaws.{zero-one}
 use Rattle.one_sheet.specs.Begins.{Begins, nothing-yet, begins-more, begins-sheet, begins-longer, held-start}
 use Rattle.one_sheet.specs.PerformedLaws.{performed-begins}
-use Rattle.reading.specs.Cursors.{hand, carriedOf}
+use Rattle.reading.specs.Cursors.{hand, carriedOf, topOffset}
 use Rattle.reading.specs.CursorLaws.{hand-carried, drop-take, none-empty}
 use Rattle.reading.specs.declared.Cursor.{Cursor}
 use Rattle.stream.specs.Streams.{openedAt, streamCheck, askOf, phaseAsk, goes, asksRead, withCursor, tidy, tidyInput, lostOf, writtenOf, readOf, takenOf, broughtOf}
-use Rattle.stream.specs.Works.{Went, Works, topOffset, below, lastBelow}
+use Rattle.stream.specs.Works.{Went, Works, below, lastBelow}
 use Rattle.stream.specs.WorksLaws.{Ready, stream-ready, not-closed, clamped-most}
 use Rattle.stream.specs.Trace.{Filled, endedBy, Trace, opens, works, writes, writes-some, reads, Later, Stands}
 use Rattle.stream.specs.declared.Stream.{Stream}

@@ -1,5 +1,5 @@
 -- What the library does with a job that is read in parts.
--- Main definitions: topOffset, below, lastBelow, Went, Advances, Works.
+-- Main definitions: below, lastBelow, Went, Advances, Works.
 use mathlib.Core.Path.{_≡_}
 use mathlib.Core.Logic.{_⊎_, _≢_}
 use mathlib.Core.Bool.{Bool, false, _&&_}
@@ -12,7 +12,7 @@ use Rattle.refusals.specs.declared.Check.the-variants as check
 use Rattle.pieces.specs.Pieces.{Appends}
 use Rattle.lines.specs.Lines.{lineLength}
 use Rattle.act.specs.Acts.{stateOf, Kept}
-use Rattle.reading.specs.Cursors.{hand}
+use Rattle.reading.specs.Cursors.{hand, topOffset}
 use Rattle.one_sheet.specs.Performed.{Performed}
 use Rattle.stream.specs.Course.{Waits, Closes}
 use Rattle.stream.specs.Streams.{streamCheck, askOf, tidy, tidyInput}
@@ -20,10 +20,6 @@ use Rattle.stream.specs.declared.Stream.{Stream}
 use Rattle.stream.specs.declared.Phase.the-variants.{Going, Closed, Past, Lost}
 use Rattle.stream.specs.declared.Ask.{Ask}
 use Rattle.stream.specs.declared.Ask.the-variants as ask
-
--- the highest offset: no byte there or past it is used
-abbrev pub topOffset : ℕ
-topOffset = 2 ^ 64 - 1
 
 -- the bytes that stand below the highest offset, of those from an offset on; and whether they are the last ones
 abbrev pub below : ℕ → List ℕ → List ℕ

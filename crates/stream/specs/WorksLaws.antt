@@ -1,5 +1,5 @@
 -- How the library keeps what it promises of a job that is read in parts.
--- Main definition: Ready. Main results: stream-ready, ready-passes; went-all, went-cut; works-bad, works-passed; front-part, back-long; taken-filled, taken-last, taken-goes, taken-over.
+-- Main definition: Ready. Main results: stream-ready, ready-passes; went-to; works-bad, works-passed; front-part, back-long; taken-filled, taken-last, taken-goes, taken-over.
 use mathlib.Core.Path.{_≡_, refl, sym, _∙_, ap, subst}
 use mathlib.Core.Logic.{inl, inr, by-cases, _≢_}
 use mathlib.Core.Bool.{Bool, true, false, cond, _&&_, not, true≢false}
@@ -11,7 +11,7 @@ use lib.Dec.{eqb, leb, ltb}
 use lib.IntN.{ℤ, pos, negsuc}
 use lib.ListN.{length, take, drop, length-take, length-drop, take-append-drop}
 use lib.Seq.{length-take-le, take-take, take-all}
-use borrow.Author.Tests.{eqb-true, leb-true, eq-eqb, ne-eqb, lt-ltb, le-ltb, le-leb, lt-leb}
+use borrow.Author.Tests.{eqb-true, leb-true, ltb-true, ltb-false, eq-eqb, ne-eqb, lt-ltb, le-ltb, le-leb, lt-leb}
 use Rattle.math.specs.Tests.{and-left, and-right}
 use Rattle.io.specs.Counts.{clamped}
 use Rattle.refusals.specs.declared.Refusal.{Refusal}
@@ -22,14 +22,15 @@ use Rattle.state.specs.State.{State}
 use Rattle.act.specs.Acts.{Kept, blockLength, marksLength}
 use Rattle.act.specs.declared.Held.{Held}
 use Rattle.standing.specs.StandingLaws.{state-passed, state-passes}
-use Rattle.reading.specs.Cursors.{hand}
+use Rattle.reading.specs.Cursors.{hand, topOffset, reachOf}
 use Rattle.reading.specs.CursorLaws.{drop-take}
+use Rattle.reading.specs.declared.Cursor.{Cursor}
 use Rattle.one_sheet.specs.ParsedLaws.{zero-one}
 use Rattle.one_sheet.specs.Performed.{Performed}
 use Rattle.one_sheet.specs.PerformedLaws.{performed-more}
 use Rattle.stream.specs.Course.{Waits, Closes, Course}
 use Rattle.stream.specs.Streams.{streamFits, streamCheck, phaseAfter, movedOf, askOf, goes, asksRead, tidy, tidyInput, lostOf, readOf, takenOf}
-use Rattle.stream.specs.Works.{topOffset, below, Went, Advances, Works}
+use Rattle.stream.specs.Works.{below, Went, Advances, Works}
 use Rattle.stream.specs.declared.Stream.{Stream}
 use Rattle.stream.specs.declared.Phase.{Phase}
 use Rattle.stream.specs.declared.Phase.the-variants.{Going, Closed, Past, Lost}
@@ -135,11 +136,12 @@ part-fits o k l h = omega (arith, length-take k l)
 pub reach-fits : (o at k x n : ℕ) (l : List ℕ) → x ≤ length (take k l) → o + k < 2 ^ 64 → at + k ≤ n → n < 2 ^ 64 → (at + x < 2 ^ 64) × (o + x < 2 ^ 64)
 reach-fits o at k x n l h f g e = (omega (arith, length-take k l), omega (arith, length-take k l))
 
-pub cut-fits : (o at : ℕ) → o < 2 ^ 64 → o + (at + (topOffset - o) - at) < 2 ^ 64
-cut-fits o at h = omega arith
+-- the bytes at hand below the highest offset
+pub below-fits : (c : Cursor) → c .offset < 2 ^ 64 → c .offset + (reachOf c - c .at) < 2 ^ 64
+below-fits c h = omega arith
 
-pub cut-inside : (o at end n : ℕ) → topOffset - o < end - at → end ≤ n → at ≤ end → at + (at + (topOffset - o) - at) ≤ n
-cut-inside o at end n h g f = omega arith
+pub below-inside : (c : Cursor) (n : ℕ) → c .at ≤ c .end → c .end ≤ n → c .at + (reachOf c - c .at) ≤ n
+below-inside c n h g = omega arith
 
 -- ---- the commands at hand
 
@@ -157,7 +159,7 @@ last-cut false n k h = refl
 
 module _ (s : Stream) (v m l i : List ℕ) (r : Ready s v m l i) {h' : Held} {v' m' : List ℕ} {at' : ℕ} {l' : List ℕ} {to' halt : ℕ} where
   -- all of them stand below the highest offset
-  pub went-all : s .cursor .end - s .cursor .at ≤ topOffset - s .cursor .offset →
+  went-all : s .cursor .end - s .cursor .at ≤ topOffset - s .cursor .offset →
       Course (take (s .cursor .end - s .cursor .at) (drop (s .cursor .at) i)) (s .last) (s .cursor .offset) (s .held) v m 0 l (s .filled) h' v' m' at' l' to' halt → (halt ≡ 0 → ⊥) →
       Went s v m l i (movedOf s h' at' to' halt false) v' m' l'
   unfolding hand movedOf
@@ -185,7 +187,7 @@ module _ (s : Stream) (v m l i : List ℕ) (r : Ready s v m l i) {h' : Held} {v'
       }
 
   -- those below the highest offset, where some stand at it or past it
-  pub went-cut : (cut : ℕ) → cut ≡ s .cursor .at + (topOffset - s .cursor .offset) → topOffset - s .cursor .offset < s .cursor .end - s .cursor .at → s .cursor .offset ≤ topOffset →
+  went-cut : (cut : ℕ) → cut ≡ s .cursor .at + (topOffset - s .cursor .offset) → topOffset - s .cursor .offset < s .cursor .end - s .cursor .at → s .cursor .offset ≤ topOffset →
       Course (take (cut - s .cursor .at) (drop (s .cursor .at) i)) false (s .cursor .offset) (s .held) v m 0 l (s .filled) h' v' m' at' l' to' halt → (halt ≡ 0 → ⊥) →
       Went s v m l i (movedOf s h' at' to' halt true) v' m' l'
   unfolding hand movedOf
@@ -224,6 +226,38 @@ module _ (s : Stream) (v m l i : List ℕ) (r : Ready s v m l i) {h' : Held} {v'
         past = λ e. (c .quiet (λ z. let a = after-past halt true e .0 in omega arith), longer, subst Waits (sym under) (c .input (after-past halt true e .0) .1));
         not-lost = after-lost halt true;
       }
+
+  -- those that stand below it, as far as they reach
+  went-reach : (cut : Bool) → cut ≡ ltb (reachOf (s .cursor)) (s .cursor .end) → s .cursor .offset ≤ topOffset →
+      Course (take (reachOf (s .cursor) - s .cursor .at) (drop (s .cursor .at) i)) (s .last && not cut) (s .cursor .offset) (s .held) v m 0 l (s .filled) h' v' m' at' l' to' halt → (halt ≡ 0 → ⊥) →
+      Went s v m l i (movedOf s h' at' to' halt cut) v' m' l'
+  went-reach true e low c n =
+      let less = ltb-true (reachOf (s .cursor)) (s .cursor .end) (sym e) in
+      let g : reachOf (s .cursor) ≡ s .cursor .at + (topOffset - s .cursor .offset) = omega arith in
+      went-cut (reachOf (s .cursor)) g (omega arith) low (subst (λ q. Course (take (reachOf (s .cursor) - s .cursor .at) (drop (s .cursor .at) i)) q (s .cursor .offset) (s .held) v m 0 l (s .filled) h' v' m' at' l' to' halt) (never (s .last)) c) n
+    where
+      never : (b : Bool) → (b && false) ≡ false
+      never true = refl
+      never false = refl
+  went-reach false e low c n =
+      let more = ltb-false (reachOf (s .cursor)) (s .cursor .end) (sym e) in
+      let g : reachOf (s .cursor) - s .cursor .at ≡ s .cursor .end - s .cursor .at = omega (arith, r .ordered) in
+      went-all (omega (arith, r .ordered))
+      (subst (λ q. Course (take q (drop (s .cursor .at) i)) (s .last) (s .cursor .offset) (s .held) v m 0 l (s .filled) h' v' m' at' l' to' halt) g
+      (subst (λ q. Course (take (reachOf (s .cursor) - s .cursor .at) (drop (s .cursor .at) i)) q (s .cursor .offset) (s .held) v m 0 l (s .filled) h' v' m' at' l' to' halt) (always (s .last)) c)) n
+    where
+      always : (b : Bool) → (b && true) ≡ b
+      always true = refl
+      always false = refl
+
+  -- the same, as the code says it
+  pub went-to : (to : ℕ) (last : Bool) → to ≡ reachOf (s .cursor) → last ≡ (s .last && not (ltb to (s .cursor .end))) → s .cursor .offset ≤ topOffset →
+      Course (take (to - s .cursor .at) (drop (s .cursor .at) i)) last (s .cursor .offset) (s .held) v m 0 l (s .filled) h' v' m' at' l' to' halt → (halt ≡ 0 → ⊥) →
+      Went s v m l i (movedOf s h' at' to' halt (ltb to (s .cursor .end))) v' m' l'
+  went-to to last e f low c n =
+      went-reach (ltb to (s .cursor .end)) (ap (λ q. ltb q (s .cursor .end)) e) low
+      (subst (λ q. Course (take (q - s .cursor .at) (drop (s .cursor .at) i)) (s .last && not (ltb to (s .cursor .end))) (s .cursor .offset) (s .held) v m 0 l (s .filled) h' v' m' at' l' to' halt) e
+      (subst (λ q. Course (take (to - s .cursor .at) (drop (s .cursor .at) i)) q (s .cursor .offset) (s .held) v m 0 l (s .filled) h' v' m' at' l' to' halt) f c)) n
 
 -- ---- the whole call
 

@@ -2,6 +2,7 @@
 // A program reads and writes what it is asked to and hands the outcome back; it owns no number.
 // Entries: opened, work, waiting, written, room, brought.
 ghost use mathlib.Core.Path.{_≡_};
+ghost use mathlib.Core.Bool.{_&&_, not};
 ghost use Prim.Native.Nat.{_+_, _^_, _<_, min};
 ghost use lib.ListN.{length, take};
 ghost use Rattle.refusals.specs.declared.Check.the-variants as check;
@@ -17,6 +18,7 @@ use reading::Cursor;
 use reading::begin;
 use reading::carry;
 use reading::lower;
+use reading::reach;
 use refusals::Check;
 use standing::check_state;
 use stream::Ask;
@@ -155,37 +157,32 @@ fn go_on(
     requires { ⌜ (streamCheck stream (now block) (now marks) (now sheet) (now input) ≡ check.Pass) × (stream .phase ≡ phase.Going) ⌝ }
     ensures { λ r. ⌜ Went stream (now (block .entry)) (now (marks .entry)) (now (sheet .entry)) (now (input .entry)) r (now (block .exit)) (now (marks .exit)) (now (sheet .exit)) ⌝ }
 {
+    let held = stream.held;
     let cursor = stream.cursor;
     let at = cursor.at;
-    let end = cursor.end;
-    let offset = cursor.offset;
-    let held = stream.held;
-    let most = u64::MAX - offset;
-    if most < (end - at) as u64 {
-        let cut = at + most as usize;
-        let here = perform_all(
-            held,
-            block,
-            marks,
-            sheet,
-            stream.filled,
-            &input[at..cut],
-            false,
-            offset,
-        );
-        return moved(stream, here, true);
-    }
+    let to = reach(cursor);
+    let cut = to < cursor.end;
     let here = perform_all(
         held,
         block,
         marks,
         sheet,
         stream.filled,
-        &input[at..end],
-        stream.last,
-        offset,
+        &input[at..to],
+        ends(stream.last, cut),
+        cursor.offset,
     );
-    moved(stream, here, false)
+    moved(stream, here, cut)
+}
+
+// The bytes are the last ones where the input has ended, unless they are cut.
+fn ends(last: bool, cut: bool) -> bool
+    ensures { λ r. ⌜ r ≡ (last && not cut) ⌝ }
+{
+    if cut {
+        return false;
+    }
+    last
 }
 
 // After the commands: their bytes are used. `cut`: some of the bytes at hand stand past the highest offset.
