@@ -221,7 +221,7 @@ static ALONE char *figures(char *out) {
         for (size_t j = i + 1; j < plan.n; j++) {
             uint32_t g = gcd(t, apart(plan.shifts[i], plan.shifts[j]));
             if (most < g) most = g;
-            if (j == i + 1 && most_near < g) most_near = g;
+            if ((j == i + 1 || (i == 0 && j == plan.n - 1)) && most_near < g) most_near = g;
         }
     }
     uint32_t pair = 2 * t / most - 1, near = 2 * t / most_near - 1;

@@ -87,7 +87,7 @@ uint8_t fumizhaki_message_count(fumizhaki_plan plan, size_t *count);
      parity     the number of check places, 2 * t - g
      pair       the least of 2 * t / gcd(shifts[i] - shifts[j], t) - 1 over all pairs of sections: so many marked
                 places inside two sections are never loose
-     neighbour  the same over sections j and j + 1
+     neighbour  the same over neighbouring sections: j and j + 1, and for n of 3 or more also n - 1 and 0
      distance   the least number of nonzero symbols in a nonzero codeword */
 uint8_t fumizhaki_figures(fumizhaki_plan plan, size_t *parity, size_t *pair, size_t *neighbour, size_t *distance);
 

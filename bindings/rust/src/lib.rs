@@ -168,7 +168,7 @@ pub struct Figures {
     pub parity: usize,
     /// erasures within any two sections that are always recovered
     pub pair: usize,
-    /// the same within any two neighbouring sections
+    /// the same within any two neighbouring sections: j and j + 1, and for n of 3 or more also n - 1 and 0
     pub neighbour: usize,
     /// least number of nonzero symbols in a nonzero codeword
     pub distance: usize,

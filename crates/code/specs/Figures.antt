@@ -1,6 +1,6 @@
 -- The four figures of a plan (01, "Families and figures").
 use mathlib.Core.Path.{_≡_}
-use mathlib.Core.Logic.{_≢_}
+use mathlib.Core.Logic.{_≢_, _⊎_}
 use mathlib.Core.Bool.{not}
 use mathlib.Core.List.{List}
 use Prim.Native.Nat.{ℕ, _+_, _-_, _*_, _/_, _%_, _≤_}
@@ -29,10 +29,10 @@ pub record Pair (L : Layout) (i j : ℕ) : Type 0 where
   pub second : j ∈ L .sections
   pub differ : i ≢ j
 
--- neighbouring sections: j and j + 1
+-- "Neighbouring sections are j and j + 1, and for n of 3 or more also n - 1 and 0"
 pub record Neighbours (L : Layout) (i j : ℕ) : Type 0 where
   pub pair : Pair L i j
-  pub next : j ≡ i + 1
+  pub next : (j ≡ i + 1) ⊎ ((3 ≤ L .n) × (i + 1 ≡ L .n) × (j ≡ 0))
 
 -- "the least of 2t / gcd(p_i - p_j, t) - 1" over the pairs of a relation
 pub record Capability (L : Layout) (R : ℕ → ℕ → Type 0) (x : ℕ) : Type 0 where

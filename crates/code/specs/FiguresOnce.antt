@@ -1,7 +1,7 @@
--- The figures are fixed by the layout: each of the four is one number.
--- Main results: least-once, figures-unique.
+-- The figures are fixed by the layout: each of the four is one number. The neighbour figure is no less than the pair figure.
+-- Main results: least-once, figures-unique, pair-below-neighbour.
 use mathlib.Core.Path.{_≡_, sym, _∙_, ap}
-use Prim.Native.Nat.{ℕ}
+use Prim.Native.Nat.{ℕ, _≤_}
 use native.Mathlib.Nat.{le-antisymm}
 use lib.ListN.{length}
 use Rattle.plan.specs.Layout.{Layout}
@@ -22,3 +22,9 @@ figures-unique f g =
       least-once (f .neighbour-figure) (g .neighbour-figure),
       least-once (f .distance-is) (g .distance-is),
     )
+
+-- neighbours are a pair
+pub pair-below-neighbour : {L : Layout} {a b c d : ℕ} → Figures L a b c d → b ≤ c
+pair-below-neighbour {c = c} f =
+    let n = f .neighbour-figure .has in
+    f .pair-figure .least c (record { i = n .i; j = n .j; related = n .related .pair; value = n .value })

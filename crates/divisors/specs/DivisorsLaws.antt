@@ -158,11 +158,29 @@ module _ (n : ℕ) {t : ℕ} {s : List ℕ} where
       less : (y : ℕ) → y ≤ g → 0 < y → 2 * t / g ≤ 2 * t / y
       less y l p = le-div-iff-mul-le p .1 (le-trans (mul-le-mul-left (2 * t / g) l) (div-mul-le-self (2 * t) g))
 
--- the section after j is its neighbour, where there is one
-pub next-neighbour : {n j : ℕ} → j < n → NeighbourOf n j (j + 1)
+-- the neighbour of section j: the one after it
+pub next-neighbour : {n j : ℕ} → j + 1 < n → NeighbourOf n j (j + 1)
 unfolding layout
 next-neighbour {n} {j} h =
     record {
-      is = λ t s b. record { pair = record { first = ∈-upTo h; second = ∈-upTo b; differ = omega arith }; next = refl };
-      only = λ t s k q. (q .next, let b = upTo-∈ n (q .pair .second) in let e = q .next in omega arith);
+      is = λ t s b. record { pair = record { first = ∈-upTo (omega arith); second = ∈-upTo b; differ = omega arith }; next = inl refl };
+      only = λ t s k q. (⊎-elim (λ e. e) (λ e. absurd (omega (arith, e .1))) (q .next), h);
+    }
+
+-- of the last of three or more, the first
+pub first-neighbour : {n j : ℕ} → j < n → n ≤ j + 1 → 3 ≤ n → NeighbourOf n j 0
+unfolding layout
+first-neighbour {n} {j} h l m =
+    record {
+      is = λ t s b. record { pair = record { first = ∈-upTo h; second = ∈-upTo b; differ = omega arith }; next = inr (m, omega arith, refl) };
+      only = λ t s k q. (⊎-elim (λ e. let b = upTo-∈ n (q .pair .second) in absurd (omega arith)) (λ e. e .2) (q .next), omega arith);
+    }
+
+-- of the last of two, none
+pub no-neighbour : {n j : ℕ} → n ≤ j + 1 → n < 3 → NeighbourOf n j n
+unfolding layout
+no-neighbour {n} {j} l m =
+    record {
+      is = λ t s b. absurd (omega arith);
+      only = λ t s k q. absurd (⊎-elim (λ e. let b = upTo-∈ n (q .pair .second) in omega arith) (λ e. omega (arith, e .0)) (q .next));
     }

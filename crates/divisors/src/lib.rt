@@ -55,12 +55,19 @@ pub fn of_pairs(n: usize, t: usize, s: &[u16]) -> usize
     g
 }
 
-// The choice of neighbours: the section after j, or n where there is none.
+// The choice of neighbours: the section that comes after j around the drum, or n where there is none.
 fn neighbour_of(n: usize, j: usize) -> usize
     requires { ⌜ j < n ⌝ }
     ensures { λ r. ⌜ NeighbourOf n j r ⌝ }
 {
-    j + 1
+    let next = j + 1;
+    if next < n {
+        return next;
+    }
+    if n < 3 {
+        return n;
+    }
+    0
 }
 
 // Over section j and its neighbour; 0 where it has none.

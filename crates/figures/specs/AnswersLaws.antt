@@ -1,6 +1,7 @@
 -- The parts of the answer put together.
 -- Main results: pair-least, near-least, figures-are, answered-good, answered-not.
 use mathlib.Core.Path.{_≡_, refl, sym, _∙_, ap, subst}
+use mathlib.Core.Logic.{inl}
 use mathlib.Core.List.{List}
 use Prim.Native.Nat.{ℕ, _-_, _*_, _/_, _≤_, _<_}
 use native.Mathlib.Omega.{arith}
@@ -31,7 +32,7 @@ module _ {n t : ℕ} {s : List ℕ} (u : GoodPlan n t s) where
   unfolding layout
   first-neighbours =
       let l = u .n-min in
-      record { pair = record { first = ∈-upTo (omega arith); second = ∈-upTo (omega arith); differ = omega arith }; next = refl }
+      record { pair = record { first = ∈-upTo (omega arith); second = ∈-upTo (omega arith); differ = omega arith }; next = inl refl }
 
   -- what the figure asks of the greatest divisor
   figure-asks : {R : ℕ → ℕ → Type 0} {g : ℕ} → Most t s R g → R 0 1 → (0 < g) × (g ≤ t) × (t ≤ maxT)

@@ -1,10 +1,10 @@
 -- Every good plan has its four figures, with no axiom: the pairs are finite, so each figure can be searched for.
 -- Main results: find, least-of, figures-some.
 use mathlib.Core.Path.{_≡_, refl, sym, _∙_, subst}
-use mathlib.Core.Logic.{_⊎_, inl, inr, ⊎-elim, by-cases, Dec·and, Dec·not}
+use mathlib.Core.Logic.{_⊎_, inl, inr, ⊎-elim, by-cases, Dec·and, Dec·not, Dec·of-iff}
 use mathlib.Core.List.{[], _∷_}
 use Prim.Native.Nat.{ℕ, zero, suc, _+_, _-_, _%_, _≤_, _<_}
-use native.Mathlib.Decide.{ℕ-discrete, decLt}
+use native.Mathlib.Decide.{ℕ-discrete, decLt, decLe}
 use native.Mathlib.Omega.{arith}
 use lib.ListN.{length}
 use Rattle.refusals.specs.declared.Check.the-variants.{Pass}
@@ -53,10 +53,18 @@ pair-dec L i j =
     (λ b. no (λ p. b (p .second))))
     (λ a. no (λ p. a (p .first)))
 
+around-dec : (n i j : ℕ) → Dec ((3 ≤ n) × (i + 1 ≡ n) × (j ≡ 0))
+around-dec n i j =
+    Dec·of-iff (λ x. (x .0, x .1 .0, x .1 .1), λ x. (x .0, (x .1, x .2))) (Dec·and (decLe 3 n) (Dec·and (ℕ-discrete (i + 1) n) (ℕ-discrete j 0)))
+
 neighbours-dec : (L : Layout) (i j : ℕ) → Dec (Neighbours L i j)
 neighbours-dec L i j =
     by-cases (pair-dec L i j)
-    (λ p. by-cases (ℕ-discrete j (i + 1)) (λ e. yes (record { pair = p; next = e })) (λ n. no (λ q. n (q .next))))
+    (λ p. by-cases (ℕ-discrete j (i + 1))
+    (λ e. yes (record { pair = p; next = inl e }))
+    (λ n. by-cases (around-dec (L .n) i j)
+    (λ a. yes (record { pair = p; next = inr a }))
+    (λ m. no (λ q. ⊎-elim n m (q .next)))))
     (λ n. no (λ q. n (q .pair)))
 
 module _ (L : Layout) (ok : Valid L) where
@@ -136,7 +144,7 @@ figures-some p g =
     let pair = least-of (Capability L (Pair L)) (capability-dec L ok (Pair L) (pair-dec L) (λ i j q. pair-below L ok q))
     (pairNumber L 0 1 - 1) (record { i = 0; j = 1; related = one; value = refl }) in
     let near = least-of (Capability L (Neighbours L)) (capability-dec L ok (Neighbours L) (neighbours-dec L) (λ i j q. pair-below L ok (q .pair)))
-    (pairNumber L 0 1 - 1) (record { i = 0; j = 1; related = record { pair = one; next = refl }; value = refl }) in
+    (pairNumber L 0 1 - 1) (record { i = 0; j = 1; related = record { pair = one; next = inl refl }; value = refl }) in
     let far = distance-some L ok {i = 0} {j = 1} (λ e. two-sections (p .n) (sym l ∙ e)) (omega (arith, s)) in (
       length (parity .0),
       pair .0,

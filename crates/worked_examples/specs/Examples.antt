@@ -1,4 +1,4 @@
--- The specimen table of document 01, proved of the definitions: what a reader can hold against the paper, row by row.
+-- The specimen table of document 01, proved of the definitions: what a reader can hold against the paper, row by row. A row of document 02 says so.
 -- `Specimens` is the table; its one value is `specimens` of Proofs. The sample job and its whole sheet join it in `SpecimenTable` (crate worked_sheet).
 use mathlib.Core.Path.{_≡_}
 use mathlib.Core.List.{List, [], _∷_}
@@ -19,6 +19,9 @@ job = layout 3 7 (0 ∷ 1 ∷ 3 ∷ [])
 -- the other plans, by n, t and shifts
 abbrev pub straight : Layout
 straight = layout 3 7 (0 ∷ 1 ∷ 2 ∷ [])
+
+abbrev pub drum : Layout
+drum = layout 3 4 (0 ∷ 1 ∷ 2 ∷ [])
 
 abbrev pub three : Layout
 three = layout 2 3 (0 ∷ 1 ∷ [])
@@ -71,6 +74,8 @@ pub record Specimens : Type 0 where
   pub figures-job : Figures job 13 13 13 6
   -- "shifts 0 1 2 give 13 13 13 4"
   pub figures-straight : Figures straight 13 13 13 4
+  -- 02, N1: "straight shifts with n 3, t 4 go from 7 to 3", by the last section and the first
+  pub figures-drum : Figures drum 7 3 3 4
   -- "t 1, two marks: loose on the zero block": any n, any two places; each shift is below t, so it is 0
   pub loose-one : (n : ℕ) (shifts : List ℕ) → ((j : ℕ) → j < n → at shifts j ≡ 0) → (c d : ℕ) → c < d → d < n →
       TwoOrMore (Agrees (layout n 1 shifts) (c ∷ d ∷ []) (replicate n 0))

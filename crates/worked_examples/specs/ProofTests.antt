@@ -1,8 +1,8 @@
 -- Tests that compute, each with the law that a passed test gives: for plans that are written out.
 -- Main results: codeword-by-test, agrees-by-test, cycle-by-test, forest-by-test, messages-by-test, ruler-by-test, capability-by-test.
-use mathlib.Core.Path.{_≡_, _∙_, ap, subst}
-use mathlib.Core.Logic.{by-cases}
-use mathlib.Core.Bool.{Bool, true, not, _&&_, _||_, and-eq-true-iff}
+use mathlib.Core.Path.{_≡_, refl, _∙_, ap, subst}
+use mathlib.Core.Logic.{⊎-elim, by-cases}
+use mathlib.Core.Bool.{Bool, true, not, _&&_, _||_, and-eq-true-iff, or-true}
 use mathlib.Core.List.{List, [], _∷_}
 use mathlib.Core.List.{List·Memᴰ·head as head, List·Memᴰ·tail as tail}
 use Prim.Native.Nat.{ℕ, _+_, _-_, _*_, _%_, _≤_, _<_}
@@ -10,7 +10,7 @@ use native.Mathlib.Decide.{decLt}
 use native.Mathlib.Omega.{arith}
 use lib.Dec.{eqb, ltb, leb}
 use lib.ListN.{length, List·getD-eq-default}
-use borrow.Author.Tests.{eq-eqb, ne-eqb, eqb-true, eqb-false, ltb-true, leb-true, not-true}
+use borrow.Author.Tests.{eq-eqb, ne-eqb, eqb-true, eqb-false, ltb-true, leb-true, le-leb, not-true}
 use Rattle.math.specs.Members.{_∈_, isIn, upTo, keep}
 use Rattle.math.specs.MembersLaws.{isIn-∈, ∉-isIn, ∈-upTo, upTo-∈, rising-upTo, ∈-keep, keep-∈, rising-keep}
 use Rattle.math.specs.Pigeonhole.{getD-∈}
@@ -21,7 +21,7 @@ use Rattle.code.specs.Marks.{erasures}
 use Rattle.code.specs.Cycles.{Cycle}
 use Rattle.code.specs.Components.{Inconsistent}
 use Rattle.code.specs.Messages.{Message, Lists}
-use Rattle.code.specs.Figures.{Least, pairNumber, Pair, Capability, EqualShifts, Ruler}
+use Rattle.code.specs.Figures.{Least, pairNumber, Pair, Neighbours, Capability, EqualShifts, Ruler}
 use Rattle.code.specs.Laws.Forest.{Erased, Forest, above}
 use Rattle.code.specs.Laws.Basics.{∈-rows, places-∈, rising-places}
 use Rattle.code.specs.Laws.Labels.{label, label-connected, connected-label}
@@ -186,22 +186,47 @@ cycle-by-test L E l half even least each distinct tops bottoms close tops-once b
 
 -- ---- figures
 
--- every pair's number, less 1, is at least x
-unfoldable pub pairsFrom : Layout → ℕ → Bool
-unfolding everyTwo
-pairsFrom L x = everyTwo (λ i j. eqb i j || leb x (pairNumber L i j - 1)) (L .sections)
+-- the two relations as tests
+unfoldable pub isPair : ℕ → ℕ → Bool
+isPair i j = not (eqb i j)
 
-pub capability-by-test : (L : Layout) (R : ℕ → ℕ → Type 0) (i j x : ℕ) → R i j → ((a b : ℕ) → R a b → Pair L a b) →
-    x ≡ pairNumber L i j - 1 → pairsFrom L x ≡ true → Least (Capability L R) x
-unfolding pairsFrom
-capability-by-test L R i j x r on value h =
+unfoldable pub isNext : ℕ → ℕ → ℕ → Bool
+isNext n i j = eqb j (i + 1) || (leb 3 n && (eqb (i + 1) n && eqb j 0))
+
+pair-passes : (L : Layout) (i j : ℕ) → Pair L i j → isPair i j ≡ true
+unfolding isPair
+pair-passes L i j p = ap not (ne-eqb i j (p .differ))
+
+next-passes : (L : Layout) (i j : ℕ) → Neighbours L i j → isNext (L .n) i j ≡ true
+unfolding isNext
+next-passes L i j p =
+    ⊎-elim (λ e. rw (eq-eqb j (i + 1) e) refl)
+    (λ e. rw (le-leb 3 (L .n) (e .0), eq-eqb (i + 1) (L .n) (e .1), eq-eqb j 0 (e .2)) (or-true (eqb j (i + 1))))
+    (p .next)
+
+-- every pair of sections that the test r passes has a number that is, less 1, at least x
+unfoldable pub numbersFrom : Layout → (ℕ → ℕ → Bool) → ℕ → Bool
+unfolding everyTwo
+numbersFrom L r x = everyTwo (λ i j. not (r i j) || leb x (pairNumber L i j - 1)) (L .sections)
+
+capability-by-test : (L : Layout) (R : ℕ → ℕ → Type 0) (r : ℕ → ℕ → Bool) → ((a b : ℕ) → R a b → Pair L a b × (r a b ≡ true)) →
+    (i j x : ℕ) → R i j → x ≡ pairNumber L i j - 1 → numbersFrom L r x ≡ true → Least (Capability L R) x
+unfolding numbersFrom
+capability-by-test L R r passes i j x related value h =
     record {
-      has = record { i = i; j = j; related = r; value = value };
+      has = record { i = i; j = j; related = related; value = value };
       least = λ y k.
-          let p = on (k .i) (k .j) (k .related) in
-          let q = everyTwo-∈ (λ i j. eqb i j || leb x (pairNumber L i j - 1)) h (p .first) (p .second) in
-          omega (arith, k .value, leb-true x (pairNumber L (k .i) (k .j) - 1) (rw (ne-eqb (k .i) (k .j) (p .differ)) at q));
+          let p = passes (k .i) (k .j) (k .related) in
+          let q = everyTwo-∈ (λ i j. not (r i j) || leb x (pairNumber L i j - 1)) h (p .0 .first) (p .0 .second) in
+          omega (arith, k .value, leb-true x (pairNumber L (k .i) (k .j) - 1) (passed q (p .1)));
     }
+
+pub pair-by-test : (L : Layout) (i j x : ℕ) → Pair L i j → x ≡ pairNumber L i j - 1 → numbersFrom L isPair x ≡ true → Least (Capability L (Pair L)) x
+pair-by-test L = capability-by-test L (Pair L) isPair (λ a b p. (p, pair-passes L a b p))
+
+pub neighbours-by-test : (L : Layout) (i j x : ℕ) → Neighbours L i j → x ≡ pairNumber L i j - 1 → numbersFrom L (isNext (L .n)) x ≡ true →
+    Least (Capability L (Neighbours L)) x
+neighbours-by-test L = capability-by-test L (Neighbours L) (isNext (L .n)) (λ a b p. (p .pair, next-passes L a b p))
 
 -- pairs with the same p_i - p_j mod t are the same
 unfoldable pub samePair : Layout → ℕ → ℕ → ℕ → ℕ → Bool

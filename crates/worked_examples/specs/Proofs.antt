@@ -1,10 +1,10 @@
 -- The proof of the specimen table, row by row, in the table's order; main result: specimens.
 -- What is about one plan is computed (ProofTests); parity places are counted by parity-count, distances given by the laws on them.
 use mathlib.Core.Path.{_≡_, refl, sym, _∙_, ap, subst}
-use mathlib.Core.Logic.{_≢_, by-cases}
+use mathlib.Core.Logic.{_≢_, inl, inr, by-cases}
 use mathlib.Core.Bool.{true, _||_}
 use mathlib.Core.List.{List, [], _∷_, map, List·Memᴰ·head, List·Memᴰ·not-nil}
-use Prim.Native.Nat.{ℕ, _-_, _*_, _<_}
+use Prim.Native.Nat.{ℕ, _-_, _*_, _%_, _<_}
 use native.Mathlib.Nat.{mul-one, div-one}
 use native.Mathlib.Decide.{ℕ-discrete}
 use native.Mathlib.Omega.{arith}
@@ -24,7 +24,7 @@ use Rattle.code.specs.Marks.{mark, erasures}
 use Rattle.code.specs.Cycles.{Cycle}
 use Rattle.code.specs.Components.{Component, Inconsistent, imbalance}
 use Rattle.code.specs.Messages.{Message, Lists, Carries}
-use Rattle.code.specs.Figures.{Least, NonzeroWeight, pairNumber, Pair, Neighbours, Ruler, Figures}
+use Rattle.code.specs.Figures.{Least, NonzeroWeight, Capability, pairNumber, Pair, Neighbours, Ruler, Figures}
 use Rattle.code.specs.Laws.Forest.{Erased, Forest, above}
 use Rattle.code.specs.Laws.Basics.{∈-places}
 use Rattle.code.specs.Laws.Labels.{merge, label, componentOf, component-is}
@@ -36,8 +36,8 @@ use Rattle.code.specs.Laws.MarksLaws.{erasures-erased}
 use Rattle.code.specs.Laws.Pairs.{zero-agrees}
 use Rattle.code.specs.Laws.ParityCount.{parity-count}
 use Rattle.code.specs.Laws.Distance.{distance-ruler, distance-other}
-use Rattle.worked_examples.specs.Examples.{job, straight, three, equal, four, sixMarks, fiveMarks, Specimens}
-use Rattle.worked_examples.specs.ProofTests.{every, every-below, everyTwo, once, closes, pairsFrom, isRuler, samePair, valid-layout, valid-by-test, codeword-by-test, agrees-by-test, erased-by-marks, forest-by-test, single, not-two, none, messages-by-test, cycle-by-test, capability-by-test, ruler-by-test, unequal-by-test}
+use Rattle.worked_examples.specs.Examples.{job, straight, drum, three, equal, four, sixMarks, fiveMarks, Specimens}
+use Rattle.worked_examples.specs.ProofTests.{every, every-below, everyTwo, once, closes, isPair, isNext, numbersFrom, isRuler, samePair, valid-layout, valid-by-test, codeword-by-test, agrees-by-test, erased-by-marks, forest-by-test, single, not-two, none, messages-by-test, cycle-by-test, pair-by-test, neighbours-by-test, ruler-by-test, unequal-by-test}
 
 -- a cycle of erasures on the zero block
 loose-by-cycle : (L : Layout) → Valid L → (E l : List ℕ) → Erased L E → Cycle L E l → TwoOrMore (Agrees L E (replicate (L .n * L .t) 0))
@@ -228,46 +228,67 @@ never-loose =
 
 -- ---- figures
 
-figures : (L : Layout) → Valid L → (parity x distance : ℕ) → 0 < length (L .sections) → 2 * L .t - divisor L ≡ parity →
-    isIn 0 (L .sections) ≡ true → isIn 1 (L .sections) ≡ true → x ≡ pairNumber L 0 1 - 1 → pairsFrom L x ≡ true →
-    Least (NonzeroWeight L) distance → Figures L parity x x distance
-figures L ok parity x distance some e zero-in one-in value least far =
-    let l = parity-count L ok some in
-    let pair : Pair L 0 1 = record { first = isIn-∈ 0 (L .sections) zero-in; second = isIn-∈ 1 (L .sections) one-in; differ = omega arith } in
-    record {
-      parity-places = (l .0, (l .1, l .2 ∙ e));
-      pair-figure = capability-by-test L (Pair L) 0 1 x pair (λ a b p. p) value least;
-      neighbour-figure = capability-by-test L (Neighbours L) 0 1 x (record { pair = pair; next = omega arith }) (λ a b p. p .pair) value least;
-      distance-is = far;
-    }
+pair-of : (L : Layout) (i j : ℕ) → isIn i (L .sections) ≡ true → isIn j (L .sections) ≡ true → i ≢ j → Pair L i j
+pair-of L i j a b n = record { first = isIn-∈ i (L .sections) a; second = isIn-∈ j (L .sections) b; differ = n }
+
+figures : (L : Layout) → Valid L → {parity pair near distance : ℕ} → 0 < length (L .sections) → 2 * L .t - divisor L ≡ parity →
+    Least (Capability L (Pair L)) pair → Least (Capability L (Neighbours L)) near → Least (NonzeroWeight L) distance → Figures L parity pair near distance
+figures L ok some e a b c =
+    let l = parity-count L ok some in record { parity-places = (l .0, (l .1, l .2 ∙ e)); pair-figure = a; neighbour-figure = b; distance-is = c }
 
 job-distance : Least (NonzeroWeight job) 6
 unfolding layout isRuler samePair everyTwo every upTo from
 job-distance = distance-ruler job job-valid (omega arith) (ruler-by-test job refl)
 
 figures-job : Figures job 13 13 13 6
-unfolding layout upTo from divisor gcdAll gap gcd euclid isIn pairNumber pairsFrom everyTwo every
-figures-job = figures job job-valid 13 13 6 (omega arith) refl refl refl refl refl job-distance
+unfolding layout upTo from divisor gcdAll gap gcd euclid isIn pairNumber numbersFrom isPair isNext everyTwo every
+figures-job =
+    let p = pair-of job 0 1 refl refl (omega arith) in
+    figures job job-valid (omega arith) refl (pair-by-test job 0 1 13 p refl refl)
+    (neighbours-by-test job 0 1 13 (record { pair = p; next = inl refl }) refl refl) job-distance
 
 straight-valid : Valid straight
 unfolding every upTo from
 straight-valid = valid-by-test 3 7 (0 ∷ 1 ∷ 2 ∷ []) refl
 
 -- 1 - 0 is 2 - 1
-straight-no-ruler : ¬ (Ruler straight)
+straight-no-ruler : (t : ℕ) → ¬ (Ruler (layout 3 t (0 ∷ 1 ∷ 2 ∷ [])))
 unfolding layout upTo from isIn
-straight-no-ruler r =
-    let pair : (i j : ℕ) → isIn i (upTo 3) ≡ true → isIn j (upTo 3) ≡ true → i ≢ j → Pair straight i j =
-    λ i j a b n. record { first = isIn-∈ i (upTo 3) a; second = isIn-∈ j (upTo 3) b; differ = n } in
-    let e = r .rule 1 0 2 1 (pair 1 0 refl refl (omega arith)) (pair 2 1 refl refl (omega arith)) refl in omega (arith, e .0)
+straight-no-ruler t r =
+    let L : Layout = layout 3 t (0 ∷ 1 ∷ 2 ∷ []) in
+    let e = r .rule 1 0 2 1 (pair-of L 1 0 refl refl (omega arith)) (pair-of L 2 1 refl refl (omega arith)) (ap (λ x. x % t) (omega arith)) in
+    omega (arith, e .0)
 
 straight-distance : Least (NonzeroWeight straight) 4
 unfolding layout everyTwo every upTo from
-straight-distance = distance-other straight straight-valid (omega arith) (unequal-by-test straight refl) straight-no-ruler
+straight-distance = distance-other straight straight-valid (omega arith) (unequal-by-test straight refl) (straight-no-ruler 7)
 
 figures-straight : Figures straight 13 13 13 4
-unfolding layout upTo from divisor gcdAll gap gcd euclid isIn pairNumber pairsFrom everyTwo every
-figures-straight = figures straight straight-valid 13 13 4 (omega arith) refl refl refl refl refl straight-distance
+unfolding layout upTo from divisor gcdAll gap gcd euclid isIn pairNumber numbersFrom isPair isNext everyTwo every
+figures-straight =
+    let p = pair-of straight 0 1 refl refl (omega arith) in
+    figures straight straight-valid (omega arith) refl (pair-by-test straight 0 1 13 p refl refl)
+    (neighbours-by-test straight 0 1 13 (record { pair = p; next = inl refl }) refl refl) straight-distance
+
+drum-valid : Valid drum
+unfolding every upTo from
+drum-valid = valid-by-test 3 4 (0 ∷ 1 ∷ 2 ∷ []) refl
+
+drum-distance : Least (NonzeroWeight drum) 4
+unfolding layout everyTwo every upTo from
+drum-distance = distance-other drum drum-valid (omega arith) (unequal-by-test drum refl) (straight-no-ruler 4)
+
+-- sections 2 and 0 are neighbours and share 2
+drum-neighbours : Least (Capability drum (Neighbours drum)) 3
+unfolding layout upTo from gap gcd euclid isIn pairNumber numbersFrom isNext everyTwo every
+drum-neighbours =
+    neighbours-by-test drum 2 0 3 (record { pair = pair-of drum 2 0 refl refl (omega arith); next = inr (omega arith, refl, refl) })
+    refl refl
+
+figures-drum : Figures drum 7 3 3 4
+unfolding layout upTo from divisor gcdAll gap gcd euclid isIn pairNumber numbersFrom isPair everyTwo every
+figures-drum =
+    figures drum drum-valid (omega arith) refl (pair-by-test drum 2 0 3 (pair-of drum 2 0 refl refl (omega arith)) refl refl) drum-neighbours drum-distance
 
 -- ---- t 1
 
@@ -326,5 +347,6 @@ specimens =
       never-loose = never-loose;
       figures-job = figures-job;
       figures-straight = figures-straight;
+      figures-drum = figures-drum;
       loose-one = loose-one;
     }

@@ -10,7 +10,7 @@ pub const NO_PLAN: usize = 5;
 
 fn dimensions(rng: &mut Prng, size: usize) -> (usize, usize) {
     let bounded = |rng: &mut Prng, most_t: usize, most: usize| {
-        let n = rng.between(2, 32.min(most));
+        let n = if rng.once_in(5) { rng.pick(&[2, 3]) } else { rng.between(2, 32.min(most)) };
         (n, rng.between(1, most_t.min(most / n)))
     };
     match size {
@@ -37,7 +37,7 @@ pub fn good_plan(rng: &mut Prng, size: usize) -> Plan {
     let mut shifts = [0u16; 32];
     shifts.iter_mut().for_each(|p| *p = rng.next() as u16);
     let divisors: Vec<usize> = (1..=t).filter(|d| t % d == 0).collect();
-    let (kind, d, a, b) = (rng.below(8), rng.pick(&divisors), rng.below(t), rng.below(t));
+    let (kind, d, a, b) = (rng.below(9), rng.pick(&divisors), rng.below(t), rng.below(t));
     for (j, shift) in shifts[..n].iter_mut().enumerate() {
         let p = match kind {
             0 => a,
@@ -48,6 +48,10 @@ pub fn good_plan(rng: &mut Prng, size: usize) -> Plan {
             _ => rng.below(t),
         };
         *shift = p as u16;
+    }
+    if kind == 8 {
+        // the last section and the first share the divisor d, the others whatever comes
+        shifts[n - 1] = ((usize::from(shifts[0]) + d * rng.below(t)) % t) as u16;
     }
     Plan { n, t, shifts }
 }

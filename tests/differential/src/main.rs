@@ -24,7 +24,7 @@ const SEED: u64 = 20_261_115;
 const MARGIN: usize = 16;
 
 /// Every outcome that must be met: entry, numbers.
-const OUTCOMES: [(&str, &[u8]); 11] = [
+const OUTCOMES: [(&str, &[u8]); 12] = [
     ("plan_of", &[0, 1, 2]),
     ("straight", &[0, 1, 10]),
     ("powers", &[0, 1, 10]),
@@ -32,6 +32,7 @@ const OUTCOMES: [(&str, &[u8]); 11] = [
     ("verdict", &[0, 1, 2]),
     ("message_count", &[0, 1, 2]),
     ("figures", &[0, 1, 2]),
+    ("figures, drum", &[0]),
     ("erasure_count", &[0, 1, 2, 3, 4]),
     ("recover", &[0, 1, 2, 3, 4, 5, 6]),
     ("encode", &[0, 1, 2, 3]),
@@ -154,7 +155,8 @@ impl Run {
         let raw = unsafe { sys::fumizhaki_figures(*plan, a, b, c, d) };
         let got = (raw, f, plan.figures().map_err(Refusal::number));
         let wanted = Figures { parity, pair, neighbour, distance };
-        self.hold("figures", size, number, what, &got, &(number, [parity, pair, neighbour, distance], answer(number).map(|()| wanted)));
+        let entry = if code.is_ok_and(Code::closed_by_drum) { "figures, drum" } else { "figures" };
+        self.hold(entry, size, number, what, &got, &(number, [parity, pair, neighbour, distance], answer(number).map(|()| wanted)));
     }
 
     // ---- calls with buffers

@@ -499,7 +499,8 @@ impl Code {
                 let gap = self.shifts[i].abs_diff(self.shifts[j]);
                 assert_eq!(z, 2 * self.t / greatest_divisor(self.t, &[gap]), "the reference's walk is not 2t / gcd");
                 pair = pair.min(z - 1);
-                if j == i + 1 {
+                // around the drum the one comes next after the other; two sections do so both ways, as one pair
+                if (i + 1) % self.n == j || (j + 1) % self.n == i {
                     neighbour = neighbour.min(z - 1);
                 }
             }
@@ -520,6 +521,12 @@ impl Code {
             assert_eq!(distance, self.least_weight(), "the reference's distance is not the least weight");
         }
         [self.places() - self.message_places.len(), pair, neighbour, distance]
+    }
+
+    /// Whether only the last section and the first have the neighbour figure: without that pair it would be higher.
+    pub fn closed_by_drum(&self) -> bool {
+        let around = self.round_trip(self.n - 1, 0);
+        (1..self.n).all(|j| around < self.round_trip(j - 1, j))
     }
 
     /// The length of the cycle through the first place of section i inside sections i and j, by walking it.

@@ -67,12 +67,13 @@ pub(crate) fn pair(plan: Plan) -> usize {
     found
 }
 
+// Once around the drum. Of two sections each comes after the other, which is one pair twice.
 pub(crate) fn neighbour(plan: Plan) -> usize {
     let n = plan.n;
     let mut found = rows(plan);
-    let mut j: usize = 1;
+    let mut j: usize = 0;
     while j < n {
-        found = least(found, figure(plan, minus(j, 1), j));
+        found = least(found, figure(plan, j, remainder(plus(j, 1), n)));
         j += 1;
     }
     found
