@@ -1,5 +1,5 @@
 -- Tests that compute, each with the law that a passed test gives: for plans that are written out.
--- Main results: codeword-by-test, agrees-by-test, cycle-by-test, forest-by-test, messages-by-test, ruler-by-test, capability-by-test.
+-- Main results: codeword-by-test, agrees-by-test, cycle-by-test, forest-by-test, messages-by-test, ruler-by-test, pair-by-test, neighbours-by-test.
 use mathlib.Core.Path.{_≡_, refl, _∙_, ap, subst}
 use mathlib.Core.Logic.{⊎-elim, by-cases}
 use mathlib.Core.Bool.{Bool, true, not, _&&_, _||_, and-eq-true-iff, or-true}
