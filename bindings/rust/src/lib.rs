@@ -166,7 +166,7 @@ impl Recovery<'_> {
 pub struct Figures {
     /// number of parity places
     pub parity: usize,
-    /// erasures within any two sections that are always recovered
+    /// so many erasures within any two sections are never loose
     pub pair: usize,
     /// the same within any two neighbouring sections: j and j + 1, and for n of 3 or more also n - 1 and 0
     pub neighbour: usize,

@@ -29,7 +29,7 @@ pub record Pair (L : Layout) (i j : ℕ) : Type 0 where
   pub second : j ∈ L .sections
   pub differ : i ≢ j
 
--- "Neighbouring sections are j and j + 1, and for n of 3 or more also n - 1 and 0"
+-- "Neighbouring sections are j and j + 1, and for n of 3 or more also n - 1 and 0" (02, N1)
 pub record Neighbours (L : Layout) (i j : ℕ) : Type 0 where
   pub pair : Pair L i j
   pub next : (j ≡ i + 1) ⊎ ((3 ≤ L .n) × (i + 1 ≡ L .n) × (j ≡ 0))

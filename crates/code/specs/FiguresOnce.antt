@@ -1,5 +1,5 @@
 -- The figures are fixed by the layout: each of the four is one number. The neighbour figure is no less than the pair figure.
--- Main results: least-once, figures-unique, pair-below-neighbour.
+-- Main results: least-once, figures-unique, pair-le-neighbour.
 use mathlib.Core.Path.{_≡_, sym, _∙_, ap}
 use Prim.Native.Nat.{ℕ, _≤_}
 use native.Mathlib.Nat.{le-antisymm}
@@ -24,7 +24,7 @@ figures-unique f g =
     )
 
 -- neighbours are a pair
-pub pair-below-neighbour : {L : Layout} {a b c d : ℕ} → Figures L a b c d → b ≤ c
-pair-below-neighbour {c = c} f =
+pub pair-le-neighbour : {L : Layout} {a b c d : ℕ} → Figures L a b c d → b ≤ c
+pair-le-neighbour {c = c} f =
     let n = f .neighbour-figure .has in
     f .pair-figure .least c (record { i = n .i; j = n .j; related = n .related .pair; value = n .value })

@@ -168,15 +168,15 @@ next-neighbour {n} {j} h =
     }
 
 -- of the last of three or more, the first
-pub first-neighbour : {n j : ℕ} → j < n → n ≤ j + 1 → 3 ≤ n → NeighbourOf n j 0
+pub around-neighbour : {n j : ℕ} → j < n → n ≤ j + 1 → 3 ≤ n → NeighbourOf n j 0
 unfolding layout
-first-neighbour {n} {j} h l m =
+around-neighbour {n} {j} h l m =
     record {
       is = λ t s b. record { pair = record { first = ∈-upTo h; second = ∈-upTo b; differ = omega arith }; next = inr (m, omega arith, refl) };
       only = λ t s k q. (⊎-elim (λ e. let b = upTo-∈ n (q .pair .second) in absurd (omega arith)) (λ e. e .2) (q .next), omega arith);
     }
 
--- of the last of two, none
+-- of the last of fewer, none
 pub no-neighbour : {n j : ℕ} → n ≤ j + 1 → n < 3 → NeighbourOf n j n
 unfolding layout
 no-neighbour {n} {j} l m =

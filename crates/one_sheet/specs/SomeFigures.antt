@@ -53,6 +53,7 @@ pair-dec L i j =
     (λ b. no (λ p. b (p .second))))
     (λ a. no (λ p. a (p .first)))
 
+-- the last of three or more sections, and the first
 around-dec : (n i j : ℕ) → Dec ((3 ≤ n) × (i + 1 ≡ n) × (j ≡ 0))
 around-dec n i j =
     Dec·of-iff (λ x. (x .0, x .1 .0, x .1 .1), λ x. (x .0, (x .1, x .2))) (Dec·and (decLe 3 n) (Dec·and (ℕ-discrete (i + 1) n) (ℕ-discrete j 0)))

@@ -32,6 +32,7 @@ const OUTCOMES: [(&str, &[u8]); 12] = [
     ("verdict", &[0, 1, 2]),
     ("message_count", &[0, 1, 2]),
     ("figures", &[0, 1, 2]),
+    // plans whose neighbour figure is that of the last section and the first alone
     ("figures, drum", &[0]),
     ("erasure_count", &[0, 1, 2, 3, 4]),
     ("recover", &[0, 1, 2, 3, 4, 5, 6]),
