@@ -1,4 +1,4 @@
-/* The rival of the desk: a job on standard input, its sheet on standard output (document 01, "The job and its sheet"), written by hand in C.
+/* The rival of the desk: a job on standard input, its sheet on standard output (document 01, "The job and its sheet"; 0D by 02), written by hand in C.
    One loop and a switch; recovery and sealing are the rival's. Same sheets as crates/desk, to the byte. */
 #include "rival.h"
 #include <stdbool.h>
@@ -8,8 +8,8 @@
 
 enum { SIZE = 1, SHIFT = 2, CROSSED = 5, COMMAND = 7, SHORT = 8, EARLY = 9, FAMILY = 10 };
 enum { MAX_PLACES = 32768, MAX_ROWS = 4096 };
-/* Bytes read at once; bytes of the sheet that may wait, and the longest line: a word, a count and 4,096 numbers. */
-enum { INPUT = 65536, SHEET = 65536, LINE = 24600 };
+/* Bytes read at once; bytes of the sheet that may wait, and more than the longest line: a word, a count and 31,744 numbers, 179,366 bytes. */
+enum { INPUT = 65536, SHEET = 65536, LINE = 196624 };
 /* The longest command, and so one byte more than may be left over before a read. */
 enum { LONGEST = 6 };
 
@@ -17,7 +17,7 @@ enum { LONGEST = 6 };
 #define ALONE __attribute__((noinline))
 
 /* Bytes of each command, the first one among them. */
-static const uint8_t length_of[13] = {0, 4, 4, 4, 3, 5, 1, 1, 3, 1, 4, 6, 2};
+static const uint8_t length_of[14] = {0, 4, 4, 4, 3, 5, 1, 1, 3, 1, 4, 6, 2, 1};
 
 static const uint16_t ruler_t[15] = {[3] = 7, 13, 21, 31, 48, 57, 73, 91, 120, 133, 168, 183};
 static const uint8_t ruler_shifts[15][14] = {[3] = {0, 1, 3},
@@ -230,6 +230,29 @@ static ALONE char *figures(char *out) {
     return finish(put_small(put_small(out, near), distance));
 }
 
+static inline size_t root(uint16_t *parent, size_t r) {
+    while (parent[r] != r) r = parent[r] = parent[parent[r]];
+    return r;
+}
+
+/* From the highest marked place down: one whose rows are joined already is the lowest of a ring. The list fills from its end, so it rises. */
+static ALONE char *fetch(char *out) {
+    static uint16_t parent[MAX_ROWS], list[MAX_PLACES];
+    size_t t = plan.t, first = MAX_PLACES, c = places;
+    for (size_t r = 0; r < 2 * t; r++) parent[r] = (uint16_t)r;
+    for (size_t j = plan.n; j-- > 0;)
+        for (size_t k = t, p = plan.shifts[j]; k-- > 0;) {
+            c--;
+            if (!(marks[c / 8] >> c % 8 & 1)) continue;
+            size_t a = root(parent, k), b = root(parent, t + (k < p ? k + t - p : k - p));
+            if (a == b) list[--first] = (uint16_t)c;
+            parent[a] = (uint16_t)b;
+        }
+    out = put_small(PUT(out, "fetch"), (uint32_t)(MAX_PLACES - first));
+    for (size_t i = first; i < MAX_PLACES; i++) out = put_small(out, list[i]);
+    return finish(out);
+}
+
 /* Marks m places from c on: a short run in one word, a long one with whole bytes in the middle. */
 static inline void mark_run(size_t c, size_t m) {
     uint8_t *at = marks + c / 8;
@@ -263,7 +286,7 @@ int main(void) {
         /* A command is performed as soon as it is whole; only else is more read, and the lines so far are written before. */
         while (__builtin_expect((size_t)(end - at) < LONGEST, 0)) {
             size_t left = (size_t)(end - at);
-            if (left > 0 && (*at == 0 || 12 < *at || length_of[*at] <= left)) break;
+            if (left > 0 && (*at == 0 || 13 < *at || length_of[*at] <= left)) break;
             if (last && left > 0) {
                 refusal = SHORT;
                 goto refused;
@@ -354,6 +377,11 @@ int main(void) {
             refusal = ruler(at[1]);
             if (refusal) goto refused;
             at += 2;
+            break;
+        case 0x0D:
+            if (places == 0) goto early;
+            out = fetch(out);
+            at += 1;
             break;
         default:
             refusal = COMMAND;

@@ -220,8 +220,10 @@ static void put_random_job(size_t commands) {
             put_place(0x04, c);
         else if (kind < 60)
             put_run(c, below(400) ? below((below(4) && most > 5 ? 5 : most) + 1) : most + below(2));
-        else if (kind < 75)
+        else if (kind < 71)
             put_byte(0x06);
+        else if (kind < 75)
+            put_byte(0x0D);
         else if (kind < 82)
             put_byte(0x07);
         else if (kind < 92)
@@ -233,7 +235,7 @@ static void put_random_job(size_t commands) {
         else if (kind < 99 || below(20))
             put_random_plan(&n, &t);
         else
-            put_byte(below(2) ? 0 : 13 + below(243));
+            put_byte(below(3) ? 14 * below(2) : 14 + below(242)); /* the unknown ones next to the known, or any */
     }
 }
 
@@ -260,9 +262,9 @@ static double ended(pid_t child, const char *program) {
     return (double)(use.ru_utime.tv_sec + use.ru_stime.tv_sec) * 1e3 + (double)(use.ru_utime.tv_usec + use.ru_stime.tv_usec) / 1e3;
 }
 
-/* Lines of the sheets of ours by their words, and refusals by their numbers. */
-enum { WORDS = 8 };
-static const char *const words[WORDS] = {"recovered", "loose", "crossed", "sealed", "symbol", "figures", "refused", "end"};
+/* Lines of the sheets of ours by their words, empty fetch lists once more, and refusals by their numbers. */
+enum { WORDS = 10 };
+static const char *const words[WORDS] = {"recovered", "loose", "crossed", "sealed", "symbol", "figures", "refused", "end", "fetch", "fetch 0"};
 static size_t seen[WORDS], refused[12];
 
 /* Takes in a part of a sheet; the front of a line is kept until the part with its rest. */
@@ -321,8 +323,9 @@ static void compare_random(const char *dir, const char *ours, const char *rival)
     for (int w = 0; w < WORDS; w++)
         if (!seen[w]) fail("no line of this kind came", words[w]);
     if (!refused[1] || !refused[2] || !refused[7] || !refused[8] || !refused[9] || !refused[10]) fail("a refusal never came", "random jobs");
-    printf("# sheets compared on %d random jobs: recovered %zu crossed %zu loose %zu refused %zu, no difference\n", RANDOM_JOBS, seen[0], seen[2], seen[1],
-           seen[6]);
+    if (seen[8] == seen[9]) fail("no list with a place in it came", "random jobs");
+    printf("# sheets compared on %d random jobs: recovered %zu crossed %zu loose %zu fetch %zu (empty %zu) refused %zu, no difference\n", RANDOM_JOBS, seen[0],
+           seen[2], seen[1], seen[8], seen[9], seen[6]);
 }
 
 static void compare_all(const char *dir, const char *ours, const char *rival, char **jobs, int how_many) {

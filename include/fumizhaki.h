@@ -13,6 +13,7 @@
  * Lengths, in elements, of a plan with n and t:
  *     block    n * t
  *     marks    (n * t + 7) / 8    place c is bit c % 8, lowest first, of byte c / 8; spare bits of the last byte are 0
+ *     list     (n * t + 7) / 8    mark bits as well; what stands there before a call is no matter
  *     witness  2 * t
  *     message  what fumizhaki_message_count gives: at least 1, at most 31,744
  *
@@ -36,7 +37,8 @@
  * lengths and its marks, and nothing outside what it is lent is read or written.
  *
  * No function keeps a state, allocates memory or waits: calls on different buffers may run at the same time in
- * different threads. As compiled now, fumizhaki_recover takes about 34 KB of stack and fumizhaki_encode about 43 KB.
+ * different threads. As compiled now, fumizhaki_recover takes about 34 KB of stack, fumizhaki_encode about 43 KB
+ * and fumizhaki_fetch about 8 KB.
  */
 #ifndef FUMIZHAKI_H
 #define FUMIZHAKI_H
@@ -108,6 +110,13 @@ uint8_t fumizhaki_erasure_count(fumizhaki_plan plan, const uint8_t *marks, size_
      1; 2; 3; 4  Block and witness are kept, *count is 0. */
 uint8_t fumizhaki_recover(fumizhaki_plan plan, uint8_t *block, size_t block_length, const uint8_t *marks,
                           size_t marks_length, uint16_t *witness, size_t witness_length, size_t *count);
+
+/* The fetch list: the marked places that are the lowest of some ring of marked places, as mark bits of its own. The bit
+   of each of them is 1, every other bit of list is 0, spare bits too; *count is their number. Without their marks no
+   ring is left, and no set of fewer places does that. Symbols play no part. Answers 0; 1; 2; 3; 4. Every answer but 0
+   keeps the list, and *count is 0. */
+uint8_t fumizhaki_fetch(fumizhaki_plan plan, const uint8_t *marks, size_t marks_length, uint8_t *list,
+                        size_t list_length, size_t *count);
 
 /* Writes to block the one codeword that carries the message: its symbols at the message places, in rising order, are
    the message. Answers 0; 1; 2; 3; 11. Every answer but 0 keeps the block. */

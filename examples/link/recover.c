@@ -1,5 +1,6 @@
-/* The library from C: a message is encoded, two neighbouring sections are lost but for one symbol, and recovery fills them in. Then a block with a ring
-   of marked places, which two codewords agree with, and a block with a damaged symbol, which none agrees with. Exits with 1 if anything is not as it should be. */
+/* The library from C: a message is encoded, two neighbouring sections are lost but for one symbol, and recovery fills them in; with that symbol lost as well
+   it has to be fetched first. Then a block with a ring of marked places, which two codewords agree with, and a block with a damaged symbol, which none agrees
+   with. Exits with 1 if anything is not as it should be. */
 #include <fumizhaki.h>
 #include <stdio.h>
 #include <string.h>
@@ -7,7 +8,7 @@
 enum { MOST_PLACES = 32768, MOST_ROWS = 4096 };
 
 static uint8_t message[MOST_PLACES], read_back[MOST_PLACES];
-static uint8_t sealed[MOST_PLACES], block[MOST_PLACES], marks[MOST_PLACES / 8];
+static uint8_t sealed[MOST_PLACES], block[MOST_PLACES], marks[MOST_PLACES / 8], list[MOST_PLACES / 8];
 static uint16_t witness[MOST_ROWS];
 
 static int wrong = 0;
@@ -77,6 +78,20 @@ static void lost_sections(void)
     expect(answer == 6 && count == 2 * t, "one symbol more makes it loose");
     expect(block[3 * t] == 0xee, "a refusal keeps the block");
     printf("loose %zu\n", count);
+
+    /* What has to be fetched from elsewhere: with these symbols set and their marks taken away the others are recovered. */
+    expect(fumizhaki_fetch(plan, marks, mark_bytes, list, mark_bytes, &count) == 0, "the fetch list is given");
+    printf("fetch %zu", count);
+    for (size_t c = 0; c < places; c++)
+        if (list[c / 8] >> (c % 8) & 1) {
+            printf(" %zu", c);
+            block[c] = sealed[c];
+        }
+    printf("\n");
+    for (size_t i = 0; i < mark_bytes; i++)
+        marks[i] &= (uint8_t)~list[i];
+    answer = fumizhaki_recover(plan, block, places, marks, mark_bytes, witness, 2 * t, &count);
+    expect(answer == 0 && memcmp(block, sealed, places) == 0, "it is recovered with what was fetched");
 
     expect(fumizhaki_recover(plan, block, places - 1, marks, mark_bytes, witness, 2 * t, &count) == 3, "a block of another length is refused");
     expect(count == 0, "a refused call has count 0");

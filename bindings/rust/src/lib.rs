@@ -5,7 +5,7 @@
 //! [`Refusal`], what recovery found is a [`Recovery`], and each hands out its number again by `number`.
 //!
 //! A block has n × t symbols; marks have a bit per place, place c in byte c / 8, bit c mod 8, lowest bit first, spare bits 0; a witness list has
-//! 2t entries; a message has as many symbols as the plan has message places. [`Plan::lengths`] gives all four.
+//! 2t entries; a message has as many symbols as the plan has message places. [`Plan::lengths`] gives all four. A fetch list is as long as the marks.
 //!
 //! ```
 //! use fumizhaki::{Plan, Recovery};
@@ -61,6 +61,7 @@ pub mod sys {
             witness_length: usize,
             count: *mut usize,
         ) -> u8;
+        pub fn fumizhaki_fetch(plan: Plan, marks: *const u8, marks_length: usize, list: *mut u8, list_length: usize, count: *mut usize) -> u8;
         pub fn fumizhaki_encode(plan: Plan, message: *const u8, message_length: usize, block: *mut u8, block_length: usize) -> u8;
         pub fn fumizhaki_message_of(plan: Plan, block: *const u8, block_length: usize, message: *mut u8, message_length: usize) -> u8;
     }
@@ -275,6 +276,13 @@ impl Plan {
         }
     }
 
+    /// The fetch list: the marked places that are the lowest of some cycle of marked places, as mark bits of its own; counts them. Without their
+    /// marks no cycle is left, and no set of fewer places does that. Refusals 1 to 4 leave `list` as it was; every other call writes all of it.
+    pub fn fetch(&self, marks: &[u8], list: &mut [u8]) -> Result<usize, Refusal> {
+        let mut count = 0;
+        done(unsafe { sys::fumizhaki_fetch(*self, marks.as_ptr(), marks.len(), list.as_mut_ptr(), list.len(), &mut count) }).map(|()| count)
+    }
+
     /// Writes to `block` the one codeword that carries `message`; refusals 1 to 3 (and 11) leave `block` as it was.
     pub fn encode(&self, message: &[u8], block: &mut [u8]) -> Result<(), Refusal> {
         done(unsafe { sys::fumizhaki_encode(*self, message.as_ptr(), message.len(), block.as_mut_ptr(), block.len()) })
@@ -355,6 +363,26 @@ mod tests {
         witness = [9; 14];
         assert_eq!(plan.recover(&mut block[1..], &[0; 3], &mut witness), Err(Refusal::Length));
         assert_eq!(witness, [9; 14]);
+    }
+
+    #[test]
+    fn fetch_lists() {
+        let plan = Plan::ruler(3).unwrap();
+        let mut list = [0xFF; 3];
+        assert_eq!((plan.fetch(&[0xFF, 0xFF, 0x1F], &mut list), list), (Ok(8), [0xFF, 0, 0]));
+        assert_eq!((plan.fetch(&marked(&plan, &[0, 7, 16, 2, 10, 17]), &mut list), list), (Ok(1), [1, 0, 0]));
+        list = [0xFF; 3];
+        assert_eq!((plan.fetch(&[0; 3], &mut list), list), (Ok(0), [0; 3]));
+        list = [0xFF; 3];
+        assert_eq!(plan.fetch(&[0, 0, 0x20], &mut list), Err(Refusal::Spare));
+        assert_eq!(plan.fetch(&[0, 0, 0x20], &mut list[1..]), Err(Refusal::Length));
+        assert_eq!(plan.fetch(&[0, 0], &mut list), Err(Refusal::Length));
+        assert_eq!(Plan { t: 3, ..plan }.fetch(&[0, 0], &mut list), Err(Refusal::Shift));
+        assert_eq!(Plan { n: 1, ..plan }.fetch(&[0, 0], &mut list), Err(Refusal::Size));
+        assert_eq!(list, [0xFF; 3]);
+        // two cycles
+        let plan = Plan::of(2, 4, &[0, 2]).unwrap();
+        assert_eq!((plan.fetch(&[0xFF], &mut list[..1]), list), (Ok(2), [3, 0xFF, 0xFF]));
     }
 
     #[test]

@@ -1,4 +1,4 @@
--- What each command means on a state and writes (01, "The job and its sheet").
+-- What each command means on a state and writes (01, "The job and its sheet"; document 02 for 0D).
 use mathlib.Core.Path.{_≡_}
 use mathlib.Core.List.{List, [], _∷_, map}
 use Prim.Native.Nat.{ℕ}
@@ -7,13 +7,14 @@ use Rattle.plan.specs.Plans.{withShift, layoutOf, blankOf, straightOf, powersOf
 use Rattle.code.specs.Codewords.{at}
 use Rattle.code.specs.Marks.{markBytes, erasures}
 use Rattle.code.specs.Messages.{Message, Lists, Carries}
+use Rattle.code.specs.FetchList.{FetchList}
 use Rattle.code.specs.Figures as code
 use Rattle.promises.specs.Promises.{Decides}
 use Rattle.answers.specs.declared.Recovery.{Recovery}
 use Rattle.answers.specs.declared.Recovery.the-variants as recovery
-use Rattle.lines.specs.Lines.{line, recoveredWord, looseWord, crossedWord, sealedWord, symbolWord, figuresWord}
+use Rattle.lines.specs.Lines.{line, recoveredWord, looseWord, crossedWord, sealedWord, symbolWord, figuresWord, fetchWord}
 use Rattle.commands.specs.declared.Command.{Command}
-use Rattle.commands.specs.declared.Command.the-variants.{NewPlan, SetShift, SetSymbol, MarkOne, MarkRun, Recover, Seal, Show, Figures, Straight, Powers, Ruler}
+use Rattle.commands.specs.declared.Command.the-variants.{NewPlan, SetShift, SetSymbol, MarkOne, MarkRun, Recover, Seal, Show, Figures, Straight, Powers, Ruler, Fetch}
 use Rattle.state.specs.State.{State, fresh, withPlan, withBlock}
 use Rattle.bits.specs.Bits.{Marked}
 
@@ -48,6 +49,13 @@ pub record Figuring (s s' : State) (text : List ℕ) : Type 0 where
   pub state : s' ≡ s
   pub says : text ≡ line figuresWord (parity ∷ pair ∷ neighbour ∷ distance ∷ [])
 
+-- Document 02, N2: "Job command 0D prints `fetch`, the count and the list"; "the marks stay"
+pub record Listing (s s' : State) (text : List ℕ) : Type 0 where
+  pub list : List ℕ
+  pub fetch : FetchList (layoutOf (s .plan)) (erasures (layoutOf (s .plan)) (s .marks)) list
+  pub stays : s' ≡ s
+  pub says : text ≡ line fetchWord (length list ∷ list)
+
 -- "03 c v symbol, its mark cleared"; "04 c mark, the symbol kept"; "05 c m mark m places from c"
 pub record Marking (s s' : State) (v : List ℕ) (c k b : ℕ) : Type 0 where
   pub marks : List ℕ
@@ -68,3 +76,4 @@ Means Figures s s' text = Figuring s s' text
 Means (Straight n t) s s' text = (s' ≡ fresh (straightOf n t .plan)) × (text ≡ [])
 Means (Powers n t q) s s' text = (s' ≡ fresh (powersOf n t q .plan)) × (text ≡ [])
 Means (Ruler n) s s' text = (s' ≡ fresh (rulerOf n .plan)) × (text ≡ [])
+Means Fetch s s' text = Listing s s' text

@@ -15,17 +15,18 @@ use Rattle.code.specs.Messages.{Carries}
 use Rattle.code.specs.FiguresOnce.{figures-unique}
 use Rattle.code.specs.Laws.Carrying.{lists-unique}
 use Rattle.code.specs.Laws.MarksLaws.{erasures-erased}
+use Rattle.code.specs.Theorems.{fetch-list-once}
 use Rattle.promises.specs.Building.{carries-single}
 use Rattle.promises.specs.Once.{decides-once}
 use Rattle.answers.specs.declared.Recovery.{Recovery}
 use Rattle.answers.specs.declared.Recovery.the-variants as recovery
-use Rattle.lines.specs.Lines.{line, sealedWord, figuresWord}
+use Rattle.lines.specs.Lines.{line, sealedWord, figuresWord, fetchWord}
 use Rattle.commands.specs.declared.Command.{Command}
-use Rattle.commands.specs.declared.Command.the-variants.{NewPlan, SetShift, SetSymbol, MarkOne, MarkRun, Recover, Seal, Show, Figures, Straight, Powers, Ruler}
+use Rattle.commands.specs.declared.Command.the-variants.{NewPlan, SetShift, SetSymbol, MarkOne, MarkRun, Recover, Seal, Show, Figures, Straight, Powers, Ruler, Fetch}
 use Rattle.state.specs.State.{State, fresh, withPlan, withBlock}
 use Rattle.state.specs.Refusing.{refusalOf}
 use Rattle.bits.specs.MarkedOnce.{marked-once}
-use Rattle.act.specs.Meaning.{Means, Recovering, Sealing, Figuring, Marking}
+use Rattle.act.specs.Meaning.{Means, Recovering, Sealing, Figuring, Listing, Marking}
 use Rattle.act.specs.RecoveringLaws.{recoveryLine, recoveryState, recovering-is}
 use Rattle.act.specs.StateLaws.{place-inside, mark-inside, run-inside, shift-inside, recover-planned, seal-planned}
 use Rattle.act.specs.ActLaws.{blank-makes, straight-makes, powers-makes, ruler-makes}
@@ -71,6 +72,7 @@ means-stands {s} text k Figures e m = same-stands k (m .state)
 means-stands {s} text k (Straight n t) e m = fresh-stands (straightOf n t .plan) (straight-makes n t .good e) (m .0)
 means-stands {s} text k (Powers n t q) e m = fresh-stands (powersOf n t q .plan) (powers-makes n t q .good e) (m .0)
 means-stands {s} text k (Ruler n) e m = fresh-stands (rulerOf n .plan) (ruler-makes n .good e) (m .0)
+means-stands {s} text k Fetch e m = same-stands k (m .stays)
 
 -- ---- one meaning
 
@@ -88,6 +90,11 @@ figuring-once : {s a b : State} {x y : List ℕ} → Figuring s a x → Figuring
 figuring-once {s} {a} {b} {x} {y} p q =
     let e = figures-unique (p .figures) (q .figures) in
     (p .state ∙ sym (q .state), p .says ∙ ap (line figuresWord) (cc (e .0, e .1, e .2, e .3)) ∙ sym (q .says))
+
+listing-once : {s a b : State} {x y : List ℕ} → Listing s a x → Listing s b y → (a ≡ b) × (x ≡ y)
+listing-once p q =
+    let e = fetch-list-once (p .fetch) (q .fetch) in
+    (p .stays ∙ sym (q .stays), p .says ∙ ap (λ l. line fetchWord (length l ∷ l)) e ∙ sym (q .says))
 
 -- the one codeword that carries the data
 sealing-once : {s a b : State} {x y : List ℕ} → planCheck (s .plan) ≡ Pass → Sealing s a x → Sealing s b y → (a ≡ b) × (x ≡ y)
@@ -124,3 +131,4 @@ means-once {s} k Figures e p q = figuring-once p q
 means-once {s} k (Straight n t) e p q = both p q
 means-once {s} k (Powers n t d) e p q = both p q
 means-once {s} k (Ruler n) e p q = both p q
+means-once {s} k Fetch e p q = listing-once p q

@@ -5,7 +5,7 @@ use mathlib.Core.Path.{_≡_, refl, sym, _∙_, ap}
 use mathlib.Core.Logic.{inr, by-cases}
 use mathlib.Core.Bool.{Bool, true, false}
 use mathlib.Core.List.{List, _++_}
-use Prim.Native.Nat.{ℕ, zero, suc, _+_, _-_, _*_, _/_, _%_, _^_, _≤_, _<_, min}
+use Prim.Native.Nat.{ℕ, _+_, _-_, _*_, _/_, _%_, _≤_, _<_, min}
 use native.Mathlib.Decide.{decLt}
 use native.Mathlib.Omega.{arith}
 use lib.ListN.{length, getD, take, drop, replicate, length-take, length-replicate, length-drop, List·getD-eq-default}
@@ -21,8 +21,8 @@ use Rattle.plan.specs.PlanLaws.{good-bounds}
 use Rattle.plan.specs.declared.Plan.{Plan}
 use Rattle.code.specs.Codewords.{bitOf}
 use Rattle.code.specs.Marks.{mark, markBytes}
-use Rattle.code.specs.Laws.MarksLaws.{bit-zero, bit-suc, mark-at}
-use Rattle.commands.specs.declared.Command.the-variants.{SetShift, SetSymbol, MarkOne, MarkRun, Recover, Seal, Show, Figures}
+use Rattle.code.specs.Laws.MarksLaws.{same-bits, mark-at}
+use Rattle.commands.specs.declared.Command.the-variants.{SetShift, SetSymbol, MarkOne, MarkRun, Recover, Seal, Show, Figures, Fetch}
 use Rattle.state.specs.State.{State, fresh}
 use Rattle.bits.specs.Bits.{Marked}
 use Rattle.state.specs.Refusing.{early, refusalOf}
@@ -70,6 +70,10 @@ module _ (s : State) where
   pub figures-planned : refusalOf s Figures ≡ Pass → s .planned ≡ true
   unfolding refusalOf
   figures-planned e = not-early _ _ _ e .0
+
+  pub fetch-planned : refusalOf s Fetch ≡ Pass → s .planned ≡ true
+  unfolding refusalOf
+  fetch-planned e = not-early _ _ _ e .0
 
 -- ---- the lengths
 
@@ -158,14 +162,6 @@ marked-take j {m} {m'} {c} {k} {b} p h =
     }
 
 -- ---- bytes past the marks
-
--- numbers of k bits with the same bits are the same
-same-bits : (k x y : ℕ) → x < 2 ^ k → y < 2 ^ k → ((b : ℕ) → b < k → bitOf b x ≡ bitOf b y) → x ≡ y
-same-bits zero x y p q h = omega arith
-same-bits (suc k) x y p q h =
-    let e : x / 2 ≡ y / 2 = same-bits k (x / 2) (y / 2) (omega arith) (omega arith) (λ b l. sym (bit-suc b x) ∙ h (suc b) (omega arith) ∙ bit-suc b y) in
-    let f : x % 2 ≡ y % 2 = sym (bit-zero x) ∙ h 0 (omega arith) ∙ bit-zero y in
-    omega arith
 
 -- whole bytes past the places that were marked are kept
 pub marked-rest : (j : ℕ) {m m' : List ℕ} {c k b : ℕ} → Bytes m → Marked m c k b m' → c + k ≤ 8 * j → drop j m' ≡ drop j m

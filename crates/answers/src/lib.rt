@@ -1,7 +1,7 @@
-// The answers of recover, encode and message_of. What they promise is in the crate promises.
-// Entries: Recovery::number, Recovery::count, Encoding::number, Reading::number.
+// The answers of recover, encode, message_of and fetch. What they promise is in the crate promises.
+// Entries: Recovery::number, Recovery::count, Encoding::number, Reading::number, Fetching::number, Fetching::count.
 ghost use mathlib.Core.Path.{_≡_};
-ghost use Rattle.answers.specs.Answers.{recoveryNumber, recoveryCount, encodingNumber, readingNumber};
+ghost use Rattle.answers.specs.Answers.{recoveryNumber, recoveryCount, encodingNumber, readingNumber, fetchingNumber, fetchingCount};
 use refusals::Refusal;
 
 pub enum Recovery {
@@ -20,6 +20,11 @@ pub enum Encoding {
 pub enum Reading {
     Read,
     Crossed,
+    Refused(Refusal),
+}
+
+pub enum Fetching {
+    Fetched(usize),
     Refused(Refusal),
 }
 
@@ -68,6 +73,27 @@ impl Reading {
             Reading::Read => 0,
             Reading::Crossed => Refusal::Crossed.number(),
             Reading::Refused(x) => x.number(),
+        }
+    }
+}
+
+impl Fetching {
+    pub fn number(self) -> u8
+        ensures { λ r. ⌜ r ≡ fetchingNumber self ⌝ }
+    {
+        match self {
+            Fetching::Fetched(_) => 0,
+            Fetching::Refused(x) => x.number(),
+        }
+    }
+
+    // The number of places on the list.
+    pub fn count(self) -> usize
+        ensures { λ r. ⌜ r ≡ fetchingCount self ⌝ }
+    {
+        match self {
+            Fetching::Fetched(z) => z,
+            Fetching::Refused(_) => 0,
         }
     }
 }

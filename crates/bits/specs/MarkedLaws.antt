@@ -1,5 +1,5 @@
 -- Marks set and cleared, one by one and by the byte, and runs of marks put together.
--- Main results: bytes-set, marked-none, marked-one, marked-set, marked-clear, marked-byte, marked-both, marked-next, marked-three, marked-no-spare, no-marks-no-spare.
+-- Main results: bytes-set, marked-none, marked-one, marked-puts, marked-set, marked-clear, marked-byte, marked-both, marked-next, marked-three, marked-no-spare, no-marks-no-spare.
 use mathlib.Core.Path.{_≡_, refl, sym, _∙_, ap, subst}
 use mathlib.Core.Logic.{inl, inr, ⊎-elim, by-cases, _≢_}
 use mathlib.Core.List.{List}
@@ -11,11 +11,10 @@ use lib.ListN.{length, getD, set, replicate, length-set}
 use lib.Seq.{getD-set-same, getD-set-other, set-out}
 use lib.Bits.{bitAnd, bitOr, or-lt, and-lt}
 use lib.Pow.{shl-exact, pow-lt}
-use Rattle.slices.specs.Zeros.{zeros-at}
 use Rattle.code.specs.Codewords.{bitOf}
 use Rattle.plan.specs.Layout.{Layout}
 use Rattle.code.specs.Marks.{mark, NoSpare}
-use Rattle.code.specs.Laws.MarksLaws.{Puts, bit-not, set-mark, clear-mark}
+use Rattle.code.specs.Laws.MarksLaws.{Puts, bit-not, mark-none, set-mark, clear-mark}
 use Rattle.bits.specs.Bits.{Marked}
 
 -- ---- bytes
@@ -50,6 +49,13 @@ marked-one {m} {m'} {c} {b} p l w =
       these = λ d g h. let e : d ≡ c = omega arith in subst (λ x. mark m' x ≡ b) (sym e) (p .here);
       others = λ d o. p .others d (λ e. ⊎-elim (λ h. omega arith) (λ h. omega arith) o);
     }
+
+-- and back
+pub marked-puts : {m m' : List ℕ} {c b : ℕ} → Marked m c 1 b m' → Puts m c b m'
+marked-puts {c} p = record {
+  here = p .these c (omega arith) (omega arith);
+  others = λ d n. p .others d (by-cases (decLt d c) inl (λ g. inr (omega arith)));
+}
 
 pub marked-both : {m m' m'' : List ℕ} {c k j b e : ℕ} → Marked m c k b m' → Marked m' e j b m'' → e ≡ c + k → Marked m c (k + j) b m''
 marked-both {m} {m'} {m''} {c} {k} {j} {b} {e} p q f =
@@ -114,10 +120,6 @@ pub marked-no-spare : (L : Layout) {m m' : List ℕ} {c k b : ℕ} → NoSpare L
 unfolding NoSpare
 marked-no-spare L s p h d g l = p .others d (inr (omega arith)) ∙ s d g (omega (arith, p .long))
 
-pub no-marks : (k d : ℕ) → mark (replicate k 0) d ≡ 0
-unfolding mark bitOf
-no-marks k d = rw (zeros-at k (d / 8)) (ap (λ x. x % 2) (zero-div (2 ^ (d % 8))))
-
 pub no-marks-no-spare : (L : Layout) (k : ℕ) → NoSpare L (replicate k 0)
 unfolding NoSpare
-no-marks-no-spare L k d g l = no-marks k d
+no-marks-no-spare L k d g l = mark-none k d

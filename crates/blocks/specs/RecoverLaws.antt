@@ -1,26 +1,23 @@
 -- What counting and recovering say on buffers of the plan's lengths: their calls pass.
 -- Main results: zeros-long, marked-is; loose-within, crossed-within; on-recovered, on-loose, on-crossed; by-success, by-loose, by-crossed.
 use mathlib.Core.Path.{_≡_, refl, sym, _∙_, ap}
-use mathlib.Core.Bool.{true}
 use mathlib.Core.List.{List, [], _∷_}
-use Prim.Native.Nat.{ℕ, _+_, _-_, _*_, _≤_, _/_}
+use Prim.Native.Nat.{ℕ, _-_, _*_, _≤_}
 use native.Mathlib.Omega.{arith}
 use lib.ListN.{length, take, replicate, length-append, length-replicate}
 use lib.Seq.{length-take-le}
-use borrow.Author.Tests.{eq-eqb}
 use Rattle.math.specs.Padded.{padded}
-use Rattle.plan.specs.Layout.{layout, messageCount}
+use Rattle.plan.specs.Layout.{layout}
 use Rattle.bounds.specs.Bounds.{maxT}
 use Rattle.plan.specs.Plans.{layoutOf, planCheck, countOf, countValue}
 use Rattle.plan.specs.PlanLaws.{good-bounds}
 use Rattle.plan.specs.declared.Plan.{Plan}
 use Rattle.code.specs.Marks.{markBytes, NoSpare, erasures}
-use Rattle.calls.specs.Calls.{countLent, countedOf, lengthsFit}
-use Rattle.calls.specs.CallsLaws.{passes}
+use Rattle.calls.specs.Calls.{countedOf}
 use Rattle.refusals.specs.declared.Check.{Check}
 use Rattle.refusals.specs.declared.Check.the-variants.{Pass}
 use Rattle.promises.specs.Promises.{Decides, Recovers}
-use Rattle.promises.specs.Building.{clear-spare, recover-passes}
+use Rattle.promises.specs.Building.{count-passes, recover-passes}
 use Rattle.answers.specs.Answers.{recoveryNumber, recoveryCount}
 use Rattle.refusals.specs.Refusals.{numberOf}
 use Rattle.refusals.specs.declared.Refusal.the-variants as refusal
@@ -42,11 +39,8 @@ pub marked-is : (p : Plan) (m : List ℕ) → planCheck p ≡ Pass → length m 
     countValue (countedOf p m) ≡ length (erasures (layoutOf p) m)
 unfolding countedOf
 marked-is p m good long spare =
-    ap (λ (k : Check). countValue (countOf k (length (erasures (layoutOf p) m)))) (sym (passes p (countLent m) m good fits (clear-spare p m (omega (arith, long)) spare))) ∙ first
+    ap (λ (k : Check). countValue (countOf k (length (erasures (layoutOf p) m)))) (count-passes p m good long spare) ∙ first
   where
-    fits : lengthsFit (p .n) (p .t) (messageCount (layoutOf p)) (countLent m) ≡ true
-    fits = unfold lengthsFit countLent layoutOf layout markBytes in simp (eq-eqb (length m) ((p .n * p .t + 7) / 8) long)
-
     first : countValue (countOf Pass (length (erasures (layoutOf p) m))) ≡ length (erasures (layoutOf p) m)
     first = unfold countOf in refl
 

@@ -1,11 +1,11 @@
 -- What refuses a call (01, "What is turned away"): one definition for every entry; and the number of marked places.
--- Main definitions: checkOf, countedOf.
+-- Main definitions: checkOf, alsoLent, countedOf.
 use mathlib.Core.Bool.{Bool, true, _&&_}
 use mathlib.Core.List.{List}
 use Prim.Native.Nat.{ℕ, _+_, _*_, _/_}
 use lib.Dec.{eqb}
 use lib.ListN.{length, take}
-use Rattle.refusals.specs.Refusals.{unless, _then_}
+use Rattle.refusals.specs.Refusals.{unless, _then_, earlier}
 use Rattle.refusals.specs.declared.Refusal.the-variants.{Length, Spare}
 use Rattle.refusals.specs.declared.Check.{Check}
 use Rattle.plan.specs.Layout.{messageCount}
@@ -44,6 +44,10 @@ callCheck p fits m = planCheck p then lentCheck (p .n * p .t) fits m
 -- the same of a call whose buffers go by the plan
 unfoldable pub checkOf : Plan → Lent → List ℕ → Check
 checkOf p lent m = callCheck p (lengthsFit (p .n) (p .t) (messageCount (layoutOf p)) lent) m
+
+-- what refuses a call that is lent a further buffer; `fits`: that one has its length too. It counts with the other lengths: after 1 and 2, before 4 (also-length).
+unfoldable pub alsoLent : Check → Bool → Check
+alsoLent c fits = earlier c (unless fits Length)
 
 -- what the count of marks is lent
 unfoldable pub countLent : List ℕ → Lent

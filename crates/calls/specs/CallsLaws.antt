@@ -1,5 +1,5 @@
 -- Which test gives which answer of checkOf, and what a call that passes says of its plan and buffers.
--- Main results: call-stop, call-next, passes; pass-good, pass-lengths, pass-spare; few-marks, few-none; counted-pass, counted-stop.
+-- Main results: call-stop, call-next, passes; pass-good, pass-lengths, pass-spare; few-marks, few-none; call-ranked; also-length, also-pass, as-marks; counted-pass, counted-stop.
 use mathlib.Core.Path.{_≡_, refl, sym, _∙_, ap}
 use mathlib.Core.Logic.{_⊎_, inl, inr, ⊎-elim}
 use mathlib.Core.Bool.{Bool, true, false, true≢false, _&&_}
@@ -12,8 +12,8 @@ use lib.Seq.{take-all}
 use borrow.Author.Tests.{eqb-true}
 use Rattle.math.specs.Tests.{and-left, and-right}
 use Rattle.bounds.specs.Bounds.{maxPlaces}
-use Rattle.refusals.specs.Refusals.{numberOf, unless, _then_}
-use Rattle.refusals.specs.RefusalLaws.{pass-not-stop, stop-same, unless-pass, then-pass}
+use Rattle.refusals.specs.Refusals.{numberOf, unless, _then_, rankOf, earlier}
+use Rattle.refusals.specs.RefusalLaws.{pass-not-stop, stop-same, stop-or-pass, unless-pass, then-pass, earlier-pass, then-earlier}
 use Rattle.refusals.specs.declared.Refusal.{Refusal}
 use Rattle.refusals.specs.declared.Refusal.the-variants.{Length, Spare}
 use Rattle.refusals.specs.declared.Check.{Check}
@@ -27,7 +27,7 @@ use Rattle.code.specs.Marks.{markBytes, NoSpare}
 use Rattle.code.specs.Laws.MarksLaws.{erasure-total}
 use Rattle.stretches.specs.Stretches.{onesOf}
 use Rattle.stretches.specs.ByteLaws.{none-marked, none-past}
-use Rattle.calls.specs.Calls.{partFits, lengthsFit, spareClear, lentCheck, callCheck, checkOf, countLent, countedOf}
+use Rattle.calls.specs.Calls.{partFits, lengthsFit, spareClear, lentCheck, callCheck, checkOf, alsoLent, countLent, countedOf}
 use Rattle.calls.specs.declared.Part.{Part}
 use Rattle.calls.specs.declared.Part.the-variants.{Of}
 use Rattle.calls.specs.declared.Lent.{Lent}
@@ -180,10 +180,9 @@ unless-stop : (b : Bool) (y : Refusal) {x : Refusal} → unless b y ≡ Stop x �
 unless-stop true y e = absurd (pass-not-stop _ e)
 unless-stop false y e = (stop-same (sym e), refl)
 
-call-few : (p : Plan) (lent : Lent) (m : List ℕ) {x : Refusal} → checkOf p lent m ≡ Stop x → (numberOf x < 4) ⊎ ((x ≡ Spare) × (spareClear (p .n * p .t) m ≡ false))
-unfolding checkOf callCheck lentCheck
-call-few p lent m e =
-    let fits = lengthsFit (p .n) (p .t) (messageCount (layoutOf p)) lent in
+call-few : (p : Plan) (fits : Bool) (m : List ℕ) {x : Refusal} → callCheck p fits m ≡ Stop x → (numberOf x < 4) ⊎ ((x ≡ Spare) × (spareClear (p .n * p .t) m ≡ false))
+unfolding callCheck lentCheck
+call-few p fits m e =
     let clear = spareClear (p .n * p .t) m in
     ⊎-elim
     (λ a. inl (⊎-elim (λ s. rw (s .0) (omega arith)) (λ s. rw (s .0) (omega arith)) (plan-refusals p a)))
@@ -191,20 +190,113 @@ call-few p lent m e =
     (then-stop (unless fits Length) (unless clear Spare) a))
     (then-stop (planCheck p) (lentCheck (p .n * p .t) fits m) e)
 
+call-most : (p : Plan) (fits : Bool) (m : List ℕ) {x : Refusal} → callCheck p fits m ≡ Stop x → numberOf x < 5
+call-most p fits m e = ⊎-elim (λ h. omega (arith, h)) (λ h. rw (h .0) (omega arith)) (call-few p fits m e)
+
 pub few-marks : (p : Plan) (lent : Lent) (m : List ℕ) {x : Refusal} → checkOf p lent m ≡ Stop x → numberOf x < 5
-few-marks p lent m e = ⊎-elim (λ h. omega (arith, h)) (λ h. rw (h .0) (omega arith)) (call-few p lent m e)
+unfolding checkOf
+few-marks p lent m e = call-most p _ m e
 
 -- where no marks are lent no spare bit is 1
 pub few-none : (p : Plan) (lent : Lent) {x : Refusal} → checkOf p lent [] ≡ Stop x → numberOf x < 4
-few-none p lent e = ⊎-elim (λ h. h) (λ h. absurd (true≢false (spare-empty (p .n * p .t) ∙ h .1))) (call-few p lent [] e)
+unfolding checkOf
+few-none p lent e = ⊎-elim (λ h. h) (λ h. absurd (true≢false (spare-empty (p .n * p .t) ∙ h .1))) (call-few p _ [] e)
+
+-- ---- the order of the table
+
+plan-rank : (p : Plan) {x : Refusal} → planCheck p ≡ Stop x → rankOf x < rankOf Length
+plan-rank p e = ⊎-elim (λ s. rw (s .0) (omega arith)) (λ s. rw (s .0) (omega arith)) (plan-refusals p e)
+
+lent-rank : (fits clear : Bool) {x : Refusal} → (unless fits Length then unless clear Spare) ≡ Stop x → rankOf Length ≤ rankOf x
+lent-rank fits clear {x} e =
+    ⊎-elim
+    (λ s. let q : x ≡ Length = unless-stop fits Length s .0 in rw q (omega arith))
+    (λ s. let q : x ≡ Spare = unless-stop clear Spare s .0 in rw q (omega arith))
+    (then-stop (unless fits Length) (unless clear Spare) e)
+
+-- the tests of a call stand in the order of the ranks
+pub call-ranked : (p : Plan) (fits : Bool) (m : List ℕ) → callCheck p fits m ≡ earlier (planCheck p) (earlier (unless fits Length) (unless (spareClear (p .n * p .t) m) Spare))
+unfolding callCheck lentCheck
+call-ranked p fits m =
+    let clear = spareClear (p .n * p .t) m in
+    then-earlier (planCheck p) (unless fits Length then unless clear Spare) (λ x y e f. omega (arith, plan-rank p e, lent-rank fits clear f))
+    ∙ ap (earlier (planCheck p))
+    (then-earlier (unless fits Length) (unless clear Spare)
+    (λ x y e f.
+    let q : x ≡ Length = unless-stop fits Length e .0 in
+    let r : y ≡ Spare = unless-stop clear Spare f .0 in
+    rw (q, r) (omega arith)))
+
+-- ---- a further buffer
+
+-- where the plan is good, and where it is not
+lent-also : (fits clear also : Bool) → alsoLent (unless fits Length then unless clear Spare) also ≡ (unless (fits && also) Length then unless clear Spare)
+unfolding alsoLent
+lent-also true true true = refl
+lent-also true true false = refl
+lent-also true false true = refl
+lent-also true false false = refl
+lent-also false clear true = refl
+lent-also false clear false = refl
+
+stop-also : (p : Plan) (also : Bool) {x : Refusal} → planCheck p ≡ Stop x → alsoLent (Stop x) also ≡ Stop x
+unfolding alsoLent
+stop-also p true e = refl
+stop-also p false e = ⊎-elim (λ s. rw (s .0) refl) (λ s. rw (s .0) refl) (plan-refusals p e)
+
+-- what it comes to
+module _ (c : Check) {fits : Bool} where
+  pub also-fits : fits ≡ true → earlier c Pass ≡ alsoLent c fits
+  unfolding alsoLent
+  also-fits e = rw e
+
+  pub also-not : fits ≡ false → earlier c (Stop Length) ≡ alsoLent c fits
+  unfolding alsoLent
+  also-not e = rw e
+
+-- it is as if it were one of the others
+pub also-length : (p : Plan) (fits also : Bool) (m : List ℕ) → alsoLent (callCheck p fits m) also ≡ callCheck p (fits && also) m
+unfolding callCheck lentCheck
+also-length p fits also m =
+    ⊎-elim
+    (λ e. rw e (lent-also fits (spareClear (p .n * p .t) m) also))
+    (λ s. rw (s .1) (stop-also p also (s .1)))
+    (stop-or-pass (planCheck p))
+
+pub also-pass : (c : Check) (fits : Bool) → alsoLent c fits ≡ Pass → (c ≡ Pass) × (fits ≡ true)
+unfolding alsoLent
+also-pass c fits e = let p = earlier-pass c (unless fits Length) e in (p .0, unless-pass fits Length (p .1))
+
+pub also-passes : {c : Check} {fits : Bool} → c ≡ Pass → fits ≡ true → alsoLent c fits ≡ Pass
+unfolding alsoLent
+also-passes e f = rw (e, f)
+
+pub also-few : (p : Plan) (lent : Lent) (m : List ℕ) (fits : Bool) {x : Refusal} → alsoLent (checkOf p lent m) fits ≡ Stop x → numberOf x < 5
+unfolding checkOf
+also-few p lent m fits e = call-most p _ m (sym (also-length p _ fits m) ∙ e)
 
 -- ---- the count of marks
+
+marks-lent : (m : List ℕ) → countLent m .marks ≡ Of (length m)
+unfolding countLent
+marks-lent m = refl
+
+fits-as : (k a b : ℕ) {fits : Bool} → (fits ≡ true → a ≡ b) → fits && eqb k a ≡ fits && eqb k b
+fits-as k a b {fits = true} h = ap (eqb k) (h refl)
+fits-as k a b {fits = false} h = refl
 
 module _ (p : Plan) (m : List ℕ) where
   -- the marks have the plan's length where the call passes
   pub count-length : checkOf p (countLent m) m ≡ Pass → length m ≡ (p .n * p .t + 7) / 8
   unfolding countLent
   count-length e = pass-lengths p (countLent m) m e .marks (length m) refl
+
+  -- so a further buffer of the plan's mark bytes is one as long as the marks
+  pub as-marks : (k : ℕ) → alsoLent (checkOf p (countLent m) m) (eqb k (length m)) ≡ alsoLent (checkOf p (countLent m) m) (eqb k ((p .n * p .t + 7) / 8))
+  unfolding checkOf
+  as-marks k =
+      also-length p _ (eqb k (length m)) m ∙ ap (λ b. callCheck p b m) (fits-as k (length m) _ (λ h. lengths-of (p .n) (p .t) (messageCount (layoutOf p)) (countLent m) h .marks (length m) (marks-lent m)))
+      ∙ sym (also-length p _ (eqb k ((p .n * p .t + 7) / 8)) m)
 
   pub count-most : checkOf p (countLent m) m ≡ Pass → 8 * length m ≤ maxPlaces
   count-most e = omega (arith, good-bounds p (pass-good p (countLent m) m e) .places-max, count-length e)

@@ -7,7 +7,7 @@ ghost use Rattle.refusals.specs.Refusals.{checkNumber};
 ghost use Rattle.plan.specs.GoodPlan.{GoodPlan};
 ghost use Rattle.plan.specs.Layout.{layout, messageCount};
 ghost use Rattle.plan.specs.Plans.{countNumber};
-ghost use Rattle.calls.specs.Calls.{partFits, lengthsFit, spareClear, lentCheck, checkOf, countLent, countedOf};
+ghost use Rattle.calls.specs.Calls.{partFits, lengthsFit, spareClear, lentCheck, checkOf, alsoLent, countLent, countedOf};
 use plan::Count;
 use plan::Plan;
 use plan::message_places;
@@ -47,6 +47,19 @@ pub fn check_call(plan: Plan, lent: Lent, marks: &[u8]) -> Check
     }
 }
 
+// The same of a call that is lent marks alone.
+pub fn check_marks(plan: Plan, marks: &[u8]) -> Check
+    ensures { λ r. ⌜ r ≡ checkOf plan (countLent (now (marks .entry))) (now (marks .entry)) ⌝ }
+{
+    let lent = Lent {
+        block: Part::Unlent,
+        marks: Part::Of(marks.len()),
+        witness: Part::Unlent,
+        message: Part::Unlent,
+    };
+    check_call(plan, lent, marks)
+}
+
 // 3, then 4. `fits`: every lent buffer has its length.
 pub fn check_lent(fits: bool, places: usize, marks: &[u8]) -> Check
     requires { ⌜ places ≤ maxPlaces ⌝ }
@@ -59,6 +72,16 @@ pub fn check_lent(fits: bool, places: usize, marks: &[u8]) -> Check
         return Check::Stop(Refusal::Spare);
     }
     Check::Pass
+}
+
+// A further buffer beside those that were checked; `fits`: it has its length.
+pub fn also_lent(check: Check, fits: bool) -> Check
+    ensures { λ r. ⌜ r ≡ alsoLent check fits ⌝ }
+{
+    if fits {
+        return check.earlier(Check::Pass);
+    }
+    check.earlier(Check::Stop(Refusal::Length))
 }
 
 // `count` is the number of message places.
@@ -120,13 +143,7 @@ pub fn erasure_count(plan: Plan, marks: &[u8]) -> Count
     ensures { λ r. ⌜ r ≡ countedOf plan (now (marks .entry)) ⌝ }
     ensures { λ r. ⌜ countNumber r ≡ checkNumber (checkOf plan (countLent (now (marks .entry))) (now (marks .entry))) ⌝ }
 {
-    let lent = Lent {
-        block: Part::Unlent,
-        marks: Part::Of(marks.len()),
-        witness: Part::Unlent,
-        message: Part::Unlent,
-    };
-    match check_call(plan, lent, marks) {
+    match check_marks(plan, marks) {
         Check::Pass => Count::Is(count_ones(marks)),
         Check::Stop(x) => Count::Not(x),
     }

@@ -4,7 +4,7 @@ ghost use mathlib.Core.Path.{_≡_};
 ghost use Rattle.refusals.specs.Refusals.{checkNumber};
 ghost use Rattle.plan.specs.Plans.{planCheck, planOf, straightOf, powersOf, rulerOf, messageCountOf, countNumber, countValue};
 ghost use Rattle.calls.specs.Calls.{countedOf};
-ghost use Rattle.numbers.specs.Entries.{numbered, FiguresOut, RecoverOut, EncodeOut, MessageOut};
+ghost use Rattle.numbers.specs.Entries.{numbered, FiguresOut, RecoverOut, EncodeOut, MessageOut, FetchOut};
 use numbers::Made;
 use numbers::number_erasure_count;
 use numbers::number_figures;
@@ -103,4 +103,18 @@ pub extern "C" fn fumizhaki_message_of(plan: Plan, block: &[u8], message: &mut [
     ensures { λ r. ⌜ MessageOut plan (now (block .entry)) (now (message .entry)) r (now (message .exit)) ⌝ }
 {
     sealing::message_of(plan, block, message).number()
+}
+
+#[no_mangle]
+pub extern "C" fn fumizhaki_fetch(
+    plan: Plan,
+    marks: &[u8],
+    list: &mut [u8],
+    count: &mut usize,
+) -> u8
+    ensures { λ r. ⌜ FetchOut plan (now (marks .entry)) (now (list .entry)) r (now (count .exit)) (now (list .exit)) ⌝ }
+{
+    let fetching = fetch::fetch(plan, marks, list);
+    *count = fetching.count();
+    fetching.number()
 }

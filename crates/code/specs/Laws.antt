@@ -13,6 +13,7 @@ pub mod CycleLaws
 pub mod CycleUnique
 pub mod WholeGraph
 pub mod Spanning
+pub mod Closings
 pub mod Sections
 pub mod ParityCount
 pub mod ClosedForm
@@ -21,3 +22,4 @@ pub mod Decide
 pub mod Pairs
 pub mod Distance
 pub mod Rulers
+pub mod Fetched

@@ -6,6 +6,7 @@ pub mod Marks
 pub mod Cycles
 pub mod Components
 pub mod Messages
+pub mod FetchList
 pub mod Figures
 pub mod Theorems
 pub mod FiguresOnce

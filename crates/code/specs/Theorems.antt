@@ -1,4 +1,4 @@
--- The theorems about the code, T1 to T11, each with one sentence; their proofs are in Laws.
+-- The theorems about the code, T1 to T11, each with one sentence, and the fetch list; their proofs are in Laws.
 -- L is any valid layout: every plan that is not refused gives one (PlanLaws.good-valid of the crate plan). E are erasures: a rising list of places.
 use mathlib.Core.Path.{_≡_}
 use mathlib.Core.Logic.{_↔_, _≢_, _⊎_}
@@ -14,13 +14,16 @@ use Rattle.code.specs.Checks.{Satisfies, Fills, update, rowChecks}
 use Rattle.code.specs.Cycles.{Cycle, Lowest}
 use Rattle.code.specs.Components.{Connected, Component, imbalance, Inconsistent}
 use Rattle.code.specs.Messages.{Parity, Message, Lists, Carries}
+use Rattle.code.specs.FetchList.{less, FetchList, FetchBits}
 use Rattle.code.specs.Figures.{Pair, pairNumber, Least, NonzeroWeight, EqualShifts, Ruler}
 use Rattle.code.specs.Laws.Labels.{decConnected}
 use Rattle.code.specs.Laws.Balance
 use Rattle.code.specs.Laws.Carrying
 use Rattle.code.specs.Laws.ClosedForm
+use Rattle.code.specs.Laws.Closings
 use Rattle.code.specs.Laws.CycleLaws
 use Rattle.code.specs.Laws.Distance
+use Rattle.code.specs.Laws.Fetched
 use Rattle.code.specs.Laws.Matrix
 use Rattle.code.specs.Laws.Pairs
 use Rattle.code.specs.Laws.ParityCount
@@ -163,3 +166,32 @@ module _ (L : Layout) (ok : Valid L) where
 
   pub distance-pair : (i j : ℕ) → L .sections ≡ i ∷ j ∷ [] → Least (NonzeroWeight L) (pairNumber L i j)
   distance-pair = Distance.distance-pair L ok
+
+  -- the fetch list (document 02, N2): all erasures have one
+  pub fetch-list-some : (E : List ℕ) → Erased L E → (F : List ℕ) × FetchList L E F
+  fetch-list-some E er = (Closings.closings L E, Closings.closings-fetch L ok er)
+
+  -- with no erasures but those that it leaves, at most one codeword agrees
+  pub fetched-never : {E F K : List ℕ} (v : List ℕ) → FetchList L E F → Erased L K → ((c : ℕ) → c ∈ K → (c ∈ E) × ¬ (c ∈ F)) → ¬ (TwoOrMore (Agrees L K v))
+  fetched-never v p = Fetched.fetched-never L ok p v
+
+  -- with fewer places taken away, whichever they are, some cycle is left, and two codewords agree with the zero block
+  pub fewer-leave : {E F : List ℕ} → FetchList L E F → Erased L E → (G : List ℕ) → length G < length F → (l : List ℕ) × Cycle L (less E G) l
+  fewer-leave = Fetched.fewer-leave L ok
+
+  pub fewer-loose : {E F : List ℕ} → FetchList L E F → Erased L E → (G : List ℕ) → length G < length F → TwoOrMore (Agrees L (less E G) (replicate (L .n * L .t) 0))
+  fewer-loose = Fetched.fewer-loose L ok
+
+-- only one list is the fetch list; with no erasures it is empty, with every place erased it is the message places
+pub fetch-list-once : {L : Layout} {E F G : List ℕ} → FetchList L E F → FetchList L E G → F ≡ G
+fetch-list-once = Fetched.fetch-list-once
+
+pub fetch-list-none : {L : Layout} {F : List ℕ} → FetchList L [] F → F ≡ []
+fetch-list-none = Fetched.fetch-list-none
+
+pub fetch-list-of-all : (L : Layout) {F : List ℕ} → FetchList L (places L) F → Lists (Message L) F
+fetch-list-of-all L p = ParityCount.lowest-messages L (p .list)
+
+-- only one list of bytes says it, and one number counts it
+pub fetch-bits-once : {L : Layout} {E m l : List ℕ} {k x y : ℕ} → FetchBits L E k m x → FetchBits L E k l y → (m ≡ l) × (x ≡ y)
+fetch-bits-once = Fetched.fetch-bits-once

@@ -1,21 +1,19 @@
 -- The cases of reading a command as laws: one for each first byte.
--- Main results: is-new-plan .. is-ruler, no-size, nothing, unknown, short, whole, size-most, command-prefix.
+-- Main results: is-new-plan .. is-fetch, no-size, nothing, unknown, short, whole, size-most, command-prefix.
 use mathlib.Core.Path.{_≡_, refl, sym, _∙_, subst}
-use mathlib.Core.Logic.{by-cases}
 use mathlib.Core.Bool.{Bool, true, false, cond}
 use mathlib.Core.List.{List, [], _∷_, _++_}
 use Prim.Native.Nat.{ℕ, _≤_, _<_}
-use native.Mathlib.Decide.{ℕ-discrete}
 use native.Mathlib.Omega.{arith}
 use lib.Dec.{eqb}
 use lib.ListN.{length, getD, List·getD-append}
-use borrow.Author.Tests.{lt-ltb, le-ltb, ne-eqb, eqb-true, eqb-false}
+use borrow.Author.Tests.{lt-ltb, le-ltb, ne-eqb, eqb-true}
 use Rattle.commands.specs.Commands.{sizeOf, longest, one, two, commandOf, parsed}
 use Rattle.commands.specs.declared.Command.{Command}
-use Rattle.commands.specs.declared.Command.the-variants.{NewPlan, SetShift, SetSymbol, MarkOne, MarkRun, Recover, Seal, Show, Figures, Straight, Powers, Ruler}
+use Rattle.commands.specs.declared.Command.the-variants.{NewPlan, SetShift, SetSymbol, MarkOne, MarkRun, Recover, Seal, Show, Figures, Straight, Powers, Ruler, Fetch}
 use Rattle.commands.specs.declared.Parsed.the-variants.{Whole, Unknown, Short, Nothing}
 
--- a byte that is none of the first eleven commands' first bytes
+-- a byte that is none of the first twelve commands' first bytes
 pub record Other (b : ℕ) : Type 0 where
   pub not-01 : b ≡ 0x01 → ⊥
   pub not-02 : b ≡ 0x02 → ⊥
@@ -28,8 +26,9 @@ pub record Other (b : ℕ) : Type 0 where
   pub not-09 : b ≡ 0x09 → ⊥
   pub not-0A : b ≡ 0x0A → ⊥
   pub not-0B : b ≡ 0x0B → ⊥
+  pub not-0C : b ≡ 0x0C → ⊥
 
-pub no-size : (b : ℕ) → Other b → (b ≡ 0x0C → ⊥) → 0 ≡ sizeOf b
+pub no-size : (b : ℕ) → Other b → (b ≡ 0x0D → ⊥) → 0 ≡ sizeOf b
 unfolding sizeOf
 no-size b o n =
     simp (
@@ -44,7 +43,8 @@ no-size b o n =
       ne-eqb b 0x09 (o .not-09),
       ne-eqb b 0x0A (o .not-0A),
       ne-eqb b 0x0B (o .not-0B),
-      ne-eqb b 0x0C n,
+      ne-eqb b 0x0C (o .not-0C),
+      ne-eqb b 0x0D n,
     )
 
 -- the command by its first byte b, and its operands
@@ -93,10 +93,14 @@ module _ (s : List ℕ) {b : ℕ} (first : b ≡ one s 0) where
   unfolding commandOf
   is-powers h p0 p1 p2 = simp (p0, p1, p2, sym first ∙ h)
 
-  pub is-ruler : {n : ℕ} → Other b → n ≡ one s 1 → Ruler n ≡ commandOf s
+  pub is-ruler : {n : ℕ} → b ≡ 0x0C → n ≡ one s 1 → Ruler n ≡ commandOf s
   unfolding commandOf
-  is-ruler o p =
-      simp (p, ← first, ne-eqb b 0x01 (o .not-01), ne-eqb b 0x02 (o .not-02), ne-eqb b 0x03 (o .not-03), ne-eqb b 0x04 (o .not-04), ne-eqb b 0x05 (o .not-05), ne-eqb b 0x06 (o .not-06), ne-eqb b 0x07 (o .not-07), ne-eqb b 0x08 (o .not-08), ne-eqb b 0x09 (o .not-09), ne-eqb b 0x0A (o .not-0A), ne-eqb b 0x0B (o .not-0B))
+  is-ruler h p0 = simp (p0, sym first ∙ h)
+
+  pub is-fetch : Other b → Fetch ≡ commandOf s
+  unfolding commandOf
+  is-fetch o =
+      simp (← first, ne-eqb b 0x01 (o .not-01), ne-eqb b 0x02 (o .not-02), ne-eqb b 0x03 (o .not-03), ne-eqb b 0x04 (o .not-04), ne-eqb b 0x05 (o .not-05), ne-eqb b 0x06 (o .not-06), ne-eqb b 0x07 (o .not-07), ne-eqb b 0x08 (o .not-08), ne-eqb b 0x09 (o .not-09), ne-eqb b 0x0A (o .not-0A), ne-eqb b 0x0B (o .not-0B), ne-eqb b 0x0C (o .not-0C))
 
 -- what stands at the front of the bytes, by the size z that the first byte says
 pub nothing : (s : List ℕ) → length s ≡ 0 → Nothing ≡ parsed s
@@ -122,16 +126,16 @@ whole (b ∷ s) {z} n e f h p = simp (p, ← e, ne-eqb z 0 f, le-ltb (length (b 
 -- the longest command
 pub size-most : (b : ℕ) → sizeOf b ≤ longest
 unfolding sizeOf
-size-most b = go (eqb b 0x01) (eqb b 0x02) (eqb b 0x03) (eqb b 0x04) (eqb b 0x05) (eqb b 0x06) (eqb b 0x07) (eqb b 0x08) (eqb b 0x09) (eqb b 0x0A) (eqb b 0x0B) (eqb b 0x0C)
+size-most b = go (eqb b 0x01) (eqb b 0x02) (eqb b 0x03) (eqb b 0x04) (eqb b 0x05) (eqb b 0x06) (eqb b 0x07) (eqb b 0x08) (eqb b 0x09) (eqb b 0x0A) (eqb b 0x0B) (eqb b 0x0C) (eqb b 0x0D)
   where
     either : (p : Bool) {x y : ℕ} → x ≤ 6 → y ≤ 6 → cond p x y ≤ 6
     either true f g = f
     either false f g = g
 
-    go : (a b c d e f g h i j k l : Bool) → cond a 4 (cond b 4 (cond c 4 (cond d 3 (cond e 5 (cond f 1 (cond g 1 (cond h 3 (cond i 1 (cond j 4 (cond k 6 (cond l 2 0))))))))))) ≤ 6
-    go a b c d e f g h i j k l =
+    go : (a b c d e f g h i j k l m : Bool) → cond a 4 (cond b 4 (cond c 4 (cond d 3 (cond e 5 (cond f 1 (cond g 1 (cond h 3 (cond i 1 (cond j 4 (cond k 6 (cond l 2 (cond m 1 0)))))))))))) ≤ 6
+    go a b c d e f g h i j k l m =
         either a (omega arith) (either b (omega arith) (either c (omega arith) (either d (omega arith) (either e (omega arith) (either f (omega arith) (either g (omega arith) (either h (omega arith) (either i (omega arith)
-        (either j (omega arith) (either k (omega arith) (either l (omega arith) (omega arith))))))))))))
+        (either j (omega arith) (either k (omega arith) (either l (omega arith) (either m (omega arith) (omega arith)))))))))))))
 
 -- a command is read from its own bytes only
 operand : (a b : List ℕ) (i : ℕ) → i < length a → getD (a ++ b) i 0 ≡ getD a i 0
@@ -141,19 +145,9 @@ pick : (p : Bool) {u v u' v' : Command} → (p ≡ true → u ≡ u') → (p ≡
 pick true f g = f refl
 pick false f g = g refl
 
-ruler-size : sizeOf 0x0C ≡ 2
-unfolding sizeOf
-ruler-size = refl
-
 module _ (a b : List ℕ) (some : 0 < sizeOf (getD a 0 0)) (h : sizeOf (getD a 0 0) ≤ length a) where
   long : (k : ℕ) → eqb (getD a 0 0) k ≡ true → sizeOf k ≤ length a
   long k e = subst (λ x. sizeOf x ≤ length a) (eqb-true (getD a 0 0) k e) h
-
-  last : Other (getD a 0 0) → 2 ≤ length a
-  last o =
-      by-cases (ℕ-discrete (getD a 0 0) 0x0C)
-      (λ e. let l : sizeOf 0x0C ≤ length a = subst (λ x. sizeOf x ≤ length a) e h in omega (arith, ruler-size))
-      (λ n. let z = no-size (getD a 0 0) o n in absurd (omega arith))
 
   pub command-prefix : commandOf (a ++ b) ≡ commandOf a
   unfolding commandOf sizeOf
@@ -170,4 +164,4 @@ module _ (a b : List ℕ) (some : 0 < sizeOf (getD a 0 0)) (h : sizeOf (getD a 0
       (pick (eqb (getD a 0 0) 0x09) (λ e. refl) (λ e9.
       (pick (eqb (getD a 0 0) 0x0A) (λ e. let l : 4 ≤ length a = long 0x0A e in rw (operand a b 1 (omega arith), operand a b 2 (omega arith), operand a b 3 (omega arith))) (λ e10.
       (pick (eqb (getD a 0 0) 0x0B) (λ e. let l : 6 ≤ length a = long 0x0B e in rw (operand a b 1 (omega arith), operand a b 2 (omega arith), operand a b 3 (omega arith), operand a b 4 (omega arith), operand a b 5 (omega arith))) (λ e11.
-      let l = last (record { not-01 = eqb-false (getD a 0 0) 0x01 e1; not-02 = eqb-false (getD a 0 0) 0x02 e2; not-03 = eqb-false (getD a 0 0) 0x03 e3; not-04 = eqb-false (getD a 0 0) 0x04 e4; not-05 = eqb-false (getD a 0 0) 0x05 e5; not-06 = eqb-false (getD a 0 0) 0x06 e6; not-07 = eqb-false (getD a 0 0) 0x07 e7; not-08 = eqb-false (getD a 0 0) 0x08 e8; not-09 = eqb-false (getD a 0 0) 0x09 e9; not-0A = eqb-false (getD a 0 0) 0x0A e10; not-0B = eqb-false (getD a 0 0) 0x0B e11 }) in rw (operand a b 1 (omega arith))))))))))))))))))))))))
+      (pick (eqb (getD a 0 0) 0x0C) (λ e. let l : 2 ≤ length a = long 0x0C e in rw (operand a b 1 (omega arith))) (λ e12. refl))))))))))))))))))))))))

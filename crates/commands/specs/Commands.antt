@@ -1,4 +1,4 @@
--- Reading a command (01, "The job and its sheet"): "Commands are one hex byte, operands unsigned, low byte first, width in bytes in brackets."
+-- Reading a command (01, "The job and its sheet"): "Commands are one hex byte, operands unsigned, low byte first, width in bytes in brackets." Document 02 adds 0D, which has no operand.
 use mathlib.Core.Bool.{cond}
 use mathlib.Core.List.{List, [], _∷_}
 use Prim.Native.Nat.{ℕ, _+_, _*_}
@@ -8,7 +8,7 @@ use Rattle.refusals.specs.declared.Refusal.the-variants as refusal
 use Rattle.refusals.specs.declared.Check.{Check}
 use Rattle.refusals.specs.declared.Check.the-variants.{Pass, Stop}
 use Rattle.commands.specs.declared.Command.{Command}
-use Rattle.commands.specs.declared.Command.the-variants.{NewPlan, SetShift, SetSymbol, MarkOne, MarkRun, Recover, Seal, Show, Figures, Straight, Powers, Ruler}
+use Rattle.commands.specs.declared.Command.the-variants.{NewPlan, SetShift, SetSymbol, MarkOne, MarkRun, Recover, Seal, Show, Figures, Straight, Powers, Ruler, Fetch}
 use Rattle.commands.specs.declared.Parsed.{Parsed}
 use Rattle.commands.specs.declared.Parsed.the-variants.{Whole, Unknown, Short, Nothing}
 
@@ -16,7 +16,8 @@ use Rattle.commands.specs.declared.Parsed.the-variants.{Whole, Unknown, 
 unfoldable pub sizeOf : ℕ → ℕ
 sizeOf b =
     cond (eqb b 0x01) 4 (cond (eqb b 0x02) 4 (cond (eqb b 0x03) 4 (cond (eqb b 0x04) 3 (cond (eqb b 0x05) 5 (cond (eqb b 0x06) 1
-    (cond (eqb b 0x07) 1 (cond (eqb b 0x08) 3 (cond (eqb b 0x09) 1 (cond (eqb b 0x0A) 4 (cond (eqb b 0x0B) 6 (cond (eqb b 0x0C) 2 0)))))))))))
+    (cond (eqb b 0x07) 1 (cond (eqb b 0x08) 3 (cond (eqb b 0x09) 1 (cond (eqb b 0x0A) 4 (cond (eqb b 0x0B) 6 (cond (eqb b 0x0C) 2
+    (cond (eqb b 0x0D) 1 0))))))))))))
 
 -- no command is longer (size-most)
 abbrev pub longest : ℕ
@@ -43,7 +44,8 @@ commandOf s =
     (cond (eqb (one s 0) 0x09) Figures
     (cond (eqb (one s 0) 0x0A) (Straight (one s 1) (two s 2))
     (cond (eqb (one s 0) 0x0B) (Powers (one s 1) (two s 2) (two s 4))
-    (Ruler (one s 1))))))))))))
+    (cond (eqb (one s 0) 0x0C) (Ruler (one s 1))
+    Fetch)))))))))))
 
 -- what stands at the front of the bytes: an unknown first byte goes before a cut-off command
 unfoldable pub parsed : List ℕ → Parsed

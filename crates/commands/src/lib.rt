@@ -4,7 +4,7 @@ ghost use mathlib.Core.Path.{_≡_};
 ghost use Prim.Native.Nat.{_<_};
 ghost use Rattle.commands.specs.Commands.{sizeOf, one, two, commandOf, parsed};
 
-// 01, "The job and its sheet": the commands 01 to 0C (hex) with their operands.
+// 01, "The job and its sheet": the commands 01 to 0C (hex) with their operands; document 02 adds 0D.
 pub enum Command {
     NewPlan { n: u8, t: u16 },
     SetShift { j: u8, p: u16 },
@@ -18,6 +18,7 @@ pub enum Command {
     Straight { n: u8, t: u16 },
     Powers { n: u8, t: u16, q: u16 },
     Ruler { n: u8 },
+    Fetch,
 }
 
 // What stands at the front of some bytes.
@@ -61,6 +62,7 @@ pub fn size_of(b: u8) -> usize
         0x0A => 4,
         0x0B => 6,
         0x0C => 2,
+        0x0D => 1,
         _ => 0,
     }
 }
@@ -100,7 +102,8 @@ fn command_of(s: &[u8]) -> Command
             t: pair(s, 2),
             q: pair(s, 4),
         },
-        _ => Command::Ruler { n: byte(s, 1) },
+        0x0C => Command::Ruler { n: byte(s, 1) },
+        _ => Command::Fetch,
     }
 }
 

@@ -78,11 +78,11 @@ unites-at shifts {n} {t} {p} {q} {c} {j} {k} {x} {y} {b} m d e u =
 -- ---- the steps of the walk
 
 module _ {n t : ℕ} {shifts : List ℕ} (s : GoodPlan n t shifts) (marks : List ℕ) where
-  layout-erasure : {d : ℕ} → d ∈ erasures (layout n t shifts) marks → (d < n * t) × (mark marks d ≡ 1)
+  pub layout-erasure : {d : ℕ} → d ∈ erasures (layout n t shifts) marks → (d < n * t) × (mark marks d ≡ 1)
   unfolding layout
   layout-erasure {d} m = let o = in-erasures (layout n t shifts) marks d .0 m in (places-∈ (layout n t shifts) (o .0) .0, o .1)
 
-  erasure-layout : {d : ℕ} → d < n * t → mark marks d ≡ 1 → d ∈ erasures (layout n t shifts) marks
+  pub erasure-layout : {d : ℕ} → d < n * t → mark marks d ≡ 1 → d ∈ erasures (layout n t shifts) marks
   unfolding layout
   erasure-layout {d} h e = in-erasures (layout n t shifts) marks d .1
       (∈-places (layout n t shifts) h (∈-upTo (div-lt-iff-lt-mul {y = n} (s .t-min) .1 h)), e)

@@ -42,7 +42,7 @@ pub(crate) fn unite(parent: &mut [u16], x: Row, y: Row) -> bool
 }
 
 // Every row is its own parent.
-pub(crate) fn own(parent: &mut [u16])
+pub fn own(parent: &mut [u16])
     requires { ⌜ length (now parent) ≤ 65536 ⌝ }
     ensures { λ _. ⌜ Own (now (parent .entry)) (now (parent .exit)) (length (now (parent .entry))) ⌝ }
 {

@@ -34,7 +34,7 @@ pub struct Walk {
 }
 
 // m places back.
-fn back(spot: Spot, t: usize, m: usize) -> Spot
+pub fn back(spot: Spot, t: usize, m: usize) -> Spot
     requires { ⌜ Stands t (spot .place .0) (spot .section) (spot .offset) × (m ≤ spot .place .0) × (m ≤ 64) × (t ≤ maxT) ⌝ }
     ensures { λ r. ⌜ Stands t (r .place .0) (r .section) (r .offset) × (r .place .0 + m ≡ spot .place .0) ⌝ }
 {
@@ -63,7 +63,7 @@ fn byte_below(c: Place) -> usize
 }
 
 // The number of places next below c that are not marked, as far as a word of marks tells.
-fn gap(marks: &[u8], c: Place) -> usize
+pub fn gap(marks: &[u8], c: Place) -> usize
     requires { ⌜ (c .0 ≤ 8 * length (now marks)) × (length (now marks) ≤ maxPlaces / 8) ⌝ }
     ensures { λ r. ⌜ Gap (now (marks .entry)) (c .0) r ⌝ }
 {
@@ -97,7 +97,7 @@ fn noted(k: Closing, closes: bool, c: Place) -> Closing
 }
 
 // The rows of the spot's place are joined. The answer: they were joined before.
-fn join(n: usize, t: usize, shifts: &[u16], parent: &mut [u16], spot: Spot) -> bool
+pub fn join(n: usize, t: usize, shifts: &[u16], parent: &mut [u16], spot: Spot) -> bool
     requires { ⌜ GoodPlan n t (now shifts) × Joinable n t (now parent) (spot .place .0) (spot .section) (spot .offset) ⌝ }
     ensures { λ r. ⌜ UnitesAt (layout n t (now (shifts .entry))) (spot .place .0) (now (parent .entry)) (now (parent .exit)) r ⌝ }
 {

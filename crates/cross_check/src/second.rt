@@ -1,6 +1,7 @@
-// The second implementation, by the words of document 01 and with no thought for speed. Of the library it knows only
+// The second implementation, by the words of documents 01 and 02 and with no thought for speed. Of the library it knows only
 // the type Plan. A block is worked on as a whole, pass by pass, until nothing changes.
 pub(crate) mod cycles;
+pub(crate) mod fetches;
 pub(crate) mod labels;
 pub(crate) mod measures;
 pub(crate) mod messages;

@@ -35,7 +35,9 @@ pub(crate) const ENDED: usize = 15;
 
 pub(crate) const WAITING: usize = 16;
 
-pub(crate) const MISMATCH: usize = 17;
+pub(crate) const FETCHED: usize = 17;
+
+pub(crate) const MISMATCH: usize = 18;
 
 // The outcome of a refusal's number; of any other number a mismatch.
 pub(crate) fn refusal(number: usize) -> usize {
@@ -58,7 +60,7 @@ pub(crate) fn judged(same: bool, outcome: usize) -> usize {
     MISMATCH
 }
 
-pub(crate) type Tally = [u64; 18];
+pub(crate) type Tally = [u64; 19];
 
 pub(crate) fn note(tally: &mut Tally, outcome: usize) {
     let i = least(outcome, MISMATCH);
@@ -66,7 +68,7 @@ pub(crate) fn note(tally: &mut Tally, outcome: usize) {
 }
 
 pub(crate) fn count(tally: &Tally, k: usize) -> u64 {
-    if k < 18 {
+    if k < 19 {
         return tally[k];
     }
     0

@@ -17,7 +17,7 @@ const INPUT: usize = 16384;
 const JOB: usize = 256;
 
 // The sheet of every job that stands there is shorter than this.
-const SHEET: usize = 65536;
+const SHEET: usize = 262144;
 
 // An odd number of digits, more than a job holds.
 const MALFORMED: usize = 18446744073709551615;

@@ -61,6 +61,10 @@ pub fn dispatch(
             held,
             count: blocks::tell_figures(held, line),
         },
+        Command::Fetch => Done {
+            held,
+            count: fetching::fetch_state(held, marks, line),
+        },
         _ => Done { held, count: 0 },
     }
 }

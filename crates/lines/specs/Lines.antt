@@ -28,6 +28,9 @@ symbolWord = 115 ∷ 121 ∷ 109 ∷ 98 ∷ 111 ∷ 108 ∷ []
 unfoldable pub figuresWord : List ℕ
 figuresWord = 102 ∷ 105 ∷ 103 ∷ 117 ∷ 114 ∷ 101 ∷ 115 ∷ []
 
+unfoldable pub fetchWord : List ℕ
+fetchWord = 102 ∷ 101 ∷ 116 ∷ 99 ∷ 104 ∷ []
+
 unfoldable pub refusedWord : List ℕ
 refusedWord = 114 ∷ 101 ∷ 102 ∷ 117 ∷ 115 ∷ 101 ∷ 100 ∷ []
 
@@ -36,7 +39,7 @@ endWord = 101 ∷ 110 ∷ 100 ∷ []
 
 -- no line is longer (line-fits)
 abbrev pub lineLength : ℕ
-lineLength = 24600
+lineLength = 196624
 
 -- room for a line with no list: a word of up to 16 letters with two numbers of 64 bits, or `figures` with four
 abbrev pub shortLength : ℕ

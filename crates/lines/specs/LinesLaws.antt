@@ -58,6 +58,6 @@ pub line-length : (word ns : List ℕ) → ((i : ℕ) → getD ns i 0 < 100000) 
 unfolding line
 line-length word ns h = let p = fields-length ns h in simp length-append (omega arith)
 
--- `loose` with its count and 4,096 places fits
-pub line-fits : (word ns : List ℕ) → ((i : ℕ) → getD ns i 0 < 100000) → length word ≤ 9 → length ns ≤ 4097 → length (line word ns) ≤ lineLength
+-- a word with a count and 32,768 places fits: `fetch` may list nearly all
+pub line-fits : (word ns : List ℕ) → ((i : ℕ) → getD ns i 0 < 100000) → length word ≤ 9 → length ns ≤ 32769 → length (line word ns) ≤ lineLength
 line-fits word ns h a b = omega (arith, line-length word ns h)

@@ -1,4 +1,4 @@
-// The lines of the sheet, written into a lent buffer: one function per kind of line.
+// The lines of the sheet, written into a lent buffer: one function per kind of line (that of `fetch`, which is put from mark bits, is in the crate fetching).
 // Each line is put at an index of the buffer and answers the next one, so that lines can follow each other. What stands before it and past it is kept.
 // Public for the crates above only.
 ghost use mathlib.Core.Path.{_≡_};
@@ -16,7 +16,7 @@ use pieces::put_number;
 use pieces::put_word;
 
 // No line is longer.
-pub const LINE: usize = 24600;
+pub const LINE: usize = 196624;
 
 pub fn line_length() -> usize
     ensures { λ r. ⌜ r ≡ lineLength ⌝ }

@@ -1,8 +1,8 @@
 -- A list written to a slice that is longer: the list, then zeros.
--- Main results: padded-none, padded-more and padded-take (one place more).
-use mathlib.Core.Path.{_≡_, sym, _∙_, ap}
+-- Main results: padded-none, padded-more and padded-take (one place more); zeros-at.
+use mathlib.Core.Path.{_≡_, refl, sym, _∙_, ap}
 use mathlib.Core.List.{List, [], _∷_, _++_, append-assoc}
-use Prim.Native.Nat.{ℕ, suc, _+_, _-_, _≤_, _<_}
+use Prim.Native.Nat.{ℕ, zero, suc, _+_, _-_, _≤_, _<_}
 use native.Mathlib.Nat.{sub-zero}
 use native.Mathlib.Numerals.{add-one}
 use native.Mathlib.Omega.{arith}
@@ -12,6 +12,12 @@ use lib.Seq.{set-append-seam, take-suc, take-length, length-take-le}
 -- the numbers of a list, then zeros, up to k numbers
 unfoldable pub padded : ℕ → List ℕ → List ℕ
 padded k l = l ++ replicate (k - length l) 0
+
+-- a list of zeros, number by number
+pub zeros-at : (k i : ℕ) → getD {A = ℕ} (replicate k 0) i 0 ≡ 0
+zeros-at zero i = refl
+zeros-at (suc k) zero = refl
+zeros-at (suc k) (suc i) = zeros-at k i
 
 pub length-padded : (k : ℕ) (l : List ℕ) → length l ≤ k → length (padded k l) ≡ k
 unfolding padded

@@ -1,5 +1,5 @@
 -- What each C entry promises: the number of an answer of the library's entry of the same name, by 01's table, and that answer's values.
--- p the plan; v the block, m the marks, w the witness list, d the message, each as lent; v', w', d' as they are left; number the result; count and the
+-- p the plan; v the block, m the marks, w the witness list, d the message, l the fetch list, each as lent; v', w', d', l' as they are left; number the result; count and the
 -- figures as they are left in the out parameters, which are written in every case.
 use mathlib.Core.Path.{_≡_}
 use mathlib.Core.Logic.{_≢_}
@@ -10,11 +10,12 @@ use Rattle.plan.specs.Plans.{layoutOf, planCheck}
 use Rattle.plan.specs.declared.Plan.{Plan}
 use Rattle.plan.specs.declared.Made.{Made as PlanMade}
 use Rattle.code.specs.Figures.{Figures}
-use Rattle.answers.specs.Answers.{recoveryNumber, recoveryCount, encodingNumber, readingNumber}
-use Rattle.promises.specs.Promises.{Recovers, Encodes, Reads}
+use Rattle.answers.specs.Answers.{recoveryNumber, recoveryCount, encodingNumber, readingNumber, fetchingNumber, fetchingCount}
+use Rattle.promises.specs.Promises.{Recovers, Encodes, Reads, Fetches}
 use Rattle.answers.specs.declared.Recovery.{Recovery}
 use Rattle.answers.specs.declared.Encoding.{Encoding}
 use Rattle.answers.specs.declared.Reading.{Reading}
+use Rattle.answers.specs.declared.Fetching.{Fetching}
 use Rattle.numbers.specs.declared.Made.{Made}
 
 -- fumizhaki_plan_of, _straight, _powers, _ruler: the constructor's answer by its number, with its plan; a refusal's plan is all zeros
@@ -45,3 +46,10 @@ pub record MessageOut (p : Plan) (v d : List ℕ) (number : ℕ) (d' : List ℕ)
   pub answer : Reading
   pub keeps : Reads p v d answer d'
   pub number-is : number ≡ readingNumber answer
+
+-- fumizhaki_fetch: the number of an answer that keeps fetch's promise, and its count, which is 0 after a refusal
+pub record FetchOut (p : Plan) (m l : List ℕ) (number count : ℕ) (l' : List ℕ) : Type 0 where
+  pub answer : Fetching
+  pub keeps : Fetches p m l answer l'
+  pub number-is : number ≡ fetchingNumber answer
+  pub count-is : count ≡ fetchingCount answer

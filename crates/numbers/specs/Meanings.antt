@@ -1,4 +1,4 @@
--- What the numbers of fumizhaki_recover, fumizhaki_encode and fumizhaki_message_of say, and what each leaves: the words of include/fumizhaki.h, with no answer
+-- What the numbers of fumizhaki_recover, fumizhaki_encode, fumizhaki_message_of and fumizhaki_fetch say, and what each leaves: the words of include/fumizhaki.h, with no answer
 -- in between. That the entries' promises say this is in Theorems.antt.
 use mathlib.Core.Path.{_≡_}
 use mathlib.Core.Logic.{_↔_, _≢_}
@@ -15,11 +15,12 @@ use Rattle.code.specs.Marks.{erasures}
 use Rattle.code.specs.Cycles.{Cycle}
 use Rattle.code.specs.Components.{Inconsistent}
 use Rattle.code.specs.Messages.{Carries}
+use Rattle.code.specs.FetchList.{FetchBits}
 use Rattle.refusals.specs.Refusals.{numberOf}
 use Rattle.calls.specs.Calls.{checkOf}
 use Rattle.refusals.specs.declared.Refusal.{Refusal}
 use Rattle.refusals.specs.declared.Check.the-variants.{Pass, Stop}
-use Rattle.promises.specs.Promises.{recoverLent, messageLent}
+use Rattle.promises.specs.Promises.{recoverLent, messageLent, fetchCheck}
 
 -- a codeword equals the block at every unmarked place
 abbrev pub AgreesWith : Plan → List ℕ → List ℕ → List ℕ → Type 0
@@ -69,3 +70,12 @@ pub record MessageMeans (p : Plan) (v d : List ℕ) (number : ℕ) (d' : List �
   pub five-when : (number ≡ 5) ↔ ((checkOf p (messageLent d v) [] ≡ Pass) × (¬ (Codeword (layoutOf p) v)))
   -- every number but 0 keeps the message buffer
   pub else-keeps : number ≢ 0 → d' ≡ d
+
+pub record FetchMeans (p : Plan) (m l : List ℕ) (number count : ℕ) (l' : List ℕ) : Type 0 where
+  pub numbers : number ∈ (0 ∷ 1 ∷ 2 ∷ 3 ∷ 4 ∷ [])
+  -- 1 to 4: what refuses the call; the list kept, count 0
+  pub refused-when : (x : Refusal) → numberOf x < 5 → (number ≡ numberOf x) ↔ (fetchCheck p m l ≡ Stop x)
+  pub refused-leaves : (x : Refusal) → numberOf x < 5 → number ≡ numberOf x → (count ≡ 0) × (l' ≡ l)
+  -- 0: nothing refuses it; the list's bits are the fetch list of the marked places, the count is their number
+  pub zero-when : (number ≡ 0) ↔ (fetchCheck p m l ≡ Pass)
+  pub zero-leaves : number ≡ 0 → FetchBits (layoutOf p) (erasures (layoutOf p) m) (length m) l' count

@@ -1,5 +1,5 @@
 -- The numbers of the C entries say what Meanings.antt states.
--- Main results: recover-means, encode-means, encode-done, message-means.
+-- Main results: recover-means, encode-means, encode-done, message-means, fetch-means.
 use mathlib.Core.Path.{_≡_, refl, sym, _∙_, ap}
 use mathlib.Core.Logic.{_↔_, _≢_, _⊎_, inl, inr, ⊎-elim, by-cases}
 use mathlib.Core.List.{List, [], _∷_, List·Memᴰ·head as head, List·Memᴰ·tail as tail}
@@ -14,12 +14,12 @@ use Rattle.code.specs.Codewords.{at}
 use Rattle.refusals.specs.Refusals.{numberOf}
 use Rattle.refusals.specs.RefusalLaws.{number-some, number-once, stop-or-pass}
 use Rattle.calls.specs.Calls.{checkOf}
-use Rattle.calls.specs.CallsLaws.{few-marks, few-none}
+use Rattle.calls.specs.CallsLaws.{few-marks, few-none, also-few}
 use Rattle.refusals.specs.declared.Refusal.{Refusal}
 use Rattle.refusals.specs.declared.Check.{Check}
 use Rattle.refusals.specs.declared.Check.the-variants.{Pass, Stop}
-use Rattle.answers.specs.Answers.{recoveryNumber, recoveryCount, encodingNumber, readingNumber}
-use Rattle.promises.specs.Promises.{Recovers, recoverLent, Encodes, Reads, messageLent}
+use Rattle.answers.specs.Answers.{recoveryNumber, recoveryCount, encodingNumber, readingNumber, fetchingNumber, fetchingCount}
+use Rattle.promises.specs.Promises.{Recovers, recoverLent, Encodes, Reads, messageLent, Fetches, fetchCheck}
 use Rattle.promises.specs.Numbers.{encode-always}
 use Rattle.answers.specs.declared.Recovery.{Recovery}
 use Rattle.answers.specs.declared.Recovery.the-variants as recovery
@@ -27,8 +27,9 @@ use Rattle.answers.specs.declared.Encoding.{Encoding}
 use Rattle.answers.specs.declared.Encoding.the-variants as encoding
 use Rattle.answers.specs.declared.Reading.{Reading}
 use Rattle.answers.specs.declared.Reading.the-variants as reading
-use Rattle.numbers.specs.Entries.{RecoverOut, EncodeOut, MessageOut}
-use Rattle.numbers.specs.Meanings.{RecoverMeans, EncodeMeans, MessageMeans}
+use Rattle.answers.specs.declared.Fetching.{Fetching}
+use Rattle.numbers.specs.Entries.{RecoverOut, EncodeOut, MessageOut, FetchOut}
+use Rattle.numbers.specs.Meanings.{RecoverMeans, EncodeMeans, MessageMeans, FetchMeans}
 
 -- ---- the number of an answer, beside what its call was checked for
 
@@ -215,3 +216,28 @@ module _ {p : Plan} {v d : List ℕ} {r : Reading} {d' : List ℕ} (f : Reads p 
 
 pub message-means : {p : Plan} {v d : List ℕ} {number : ℕ} {d' : List ℕ} → MessageOut p v d number d' → MessageMeans p v d number d'
 message-means h = rw (h .number-is) (read-means (h .keeps))
+
+-- ---- fetch
+
+module _ {p : Plan} {m l : List ℕ} {r : Fetching} {l' : List ℕ} (f : Fetches p m l r l') where
+  fetch-few : {x : Refusal} → fetchCheck p m l ≡ Stop x → numberOf x < 5
+  unfolding fetchCheck
+  fetch-few e = also-few p _ m _ e
+
+  fetch-told : Told (fetchCheck p m l) (fetchingNumber r)
+  fetch-told = record {
+    stopped = λ x e. (ap fetchingNumber (f .refused x e .0), fetch-few e);
+    passed = λ q. inl (ap fetchingNumber (f .fetched q .1));
+  }
+
+  fetched-means : FetchMeans p m l (fetchingNumber r) (fetchingCount r) l'
+  fetched-means = record {
+    numbers = told-in fetch-told (λ x e. in-five (numberOf x) (fetch-few e)) (λ q. head (ap fetchingNumber (f .fetched q .1)));
+    refused-when = stops-when fetch-told;
+    refused-leaves = λ x h e. let s = f .refused x (stops-when fetch-told x h .0 e) in (ap fetchingCount (s .0), s .1);
+    zero-when = (λ e. passes-when fetch-told (inl e), λ q. ap fetchingNumber (f .fetched q .1));
+    zero-leaves = λ e. f .listed (passes-when fetch-told (inl e));
+  }
+
+pub fetch-means : {p : Plan} {m l : List ℕ} {number count : ℕ} {l' : List ℕ} → FetchOut p m l number count l' → FetchMeans p m l number count l'
+fetch-means h = rw (h .number-is, h .count-is) (fetched-means (h .keeps))

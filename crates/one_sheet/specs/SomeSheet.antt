@@ -17,19 +17,20 @@ use Rattle.plan.specs.PlanLaws.{good-valid}
 use Rattle.plan.specs.declared.Plan.{Plan}
 use Rattle.plan.specs.declared.Made.{Made}
 use Rattle.code.specs.Codewords.{at, Single}
-use Rattle.code.specs.Marks.{markBytes}
+use Rattle.code.specs.Marks.{markBytes, erasures}
 use Rattle.code.specs.Laws.Carrying.{carried-some}
 use Rattle.code.specs.Laws.MarksLaws.{erasures-erased}
 use Rattle.code.specs.Laws.ParityCount.{messages, message-lists}
+use Rattle.code.specs.Theorems.{fetch-list-some}
 use Rattle.promises.specs.Building.{map-bytes}
 use Rattle.answers.specs.declared.Recovery.{Recovery}
 use Rattle.answers.specs.declared.Recovery.the-variants as recovery
 use Rattle.commands.specs.Commands.{sizeOf, one, commandOf, parsed}
 use Rattle.commands.specs.declared.Command.{Command}
-use Rattle.commands.specs.declared.Command.the-variants.{NewPlan, SetShift, SetSymbol, MarkOne, MarkRun, Recover, Seal, Show, Figures, Straight, Powers, Ruler}
+use Rattle.commands.specs.declared.Command.the-variants.{NewPlan, SetShift, SetSymbol, MarkOne, MarkRun, Recover, Seal, Show, Figures, Straight, Powers, Ruler, Fetch}
 use Rattle.commands.specs.declared.Parsed.{Parsed}
 use Rattle.commands.specs.declared.Parsed.the-variants.{Whole, Unknown, Short, Nothing}
-use Rattle.lines.specs.Lines.{line, endWord, sealedWord, symbolWord, figuresWord}
+use Rattle.lines.specs.Lines.{line, endWord, sealedWord, symbolWord, figuresWord, fetchWord}
 use Rattle.state.specs.State.{State, fresh, withPlan, withBlock}
 use Rattle.bits.specs.Bits.{Marked}
 use Rattle.state.specs.Refusing.{refusalOf}
@@ -39,7 +40,7 @@ use Rattle.act.specs.Acts.{Makes}
 use Rattle.act.specs.ActLaws.{blank-makes, straight-makes, powers-makes, ruler-makes}
 use Rattle.act.specs.MeaningOnce.{Standing, means-stands}
 use Rattle.act.specs.RecoveringLaws.{recoveryLine, recoveryState, recovering-by}
-use Rattle.act.specs.StateLaws.{place-inside, mark-inside, run-inside, shift-inside, recover-planned, seal-planned, figures-planned}
+use Rattle.act.specs.StateLaws.{place-inside, mark-inside, run-inside, shift-inside, recover-planned, seal-planned, figures-planned, fetch-planned}
 use Rattle.turns.specs.Sheets as sheets
 use Rattle.turns.specs.Sheets.{Sheet, start}
 use Rattle.one_sheet.specs.OneSheet.{one-sheet}
@@ -153,6 +154,18 @@ figure-some {s} k =
       ready = record { sound = λ _. k };
     }
 
+list-some : {s : State} → Sound s → Some Fetch s
+unfolding Means
+list-some {s} k =
+    let L = layoutOf (s .plan) in
+    let f = fetch-list-some L (good-valid (s .plan) (k .good)) (erasures L (s .marks)) (erasures-erased L (s .marks)) in
+    record {
+      state = s;
+      text = line fetchWord (length (f .0) ∷ f .0);
+      means = record { list = f .0; fetch = f .1; stays = refl; says = refl };
+      ready = record { sound = λ _. k };
+    }
+
 mark-some : {s : State} (c : Command) (v : List ℕ) → Sound s → length v ≡ s .plan .n * s .plan .t → Bytes v → {m' : List ℕ} {a n b : ℕ} → (d : Marked (s .marks) a n b m') →
     Means c s (withBlock s v m') [] → Some c s
 mark-some {s} c v k l w {m'} d m = record { state = withBlock s v m'; text = []; means = m; ready = block-ready v m' k l w (d .long ∙ k .marks-long) (d .bytes) }
@@ -171,6 +184,7 @@ symbolOf Figures = 0
 symbolOf (Straight n t) = 0
 symbolOf (Powers n t q) = 0
 symbolOf (Ruler n) = 0
+symbolOf Fetch = 0
 
 -- a command that is not refused has a meaning
 pub means-some : {s : State} → Ready s → (c : Command) → symbolOf c < 256 → refusalOf s c ≡ Pass → Some c s
@@ -220,6 +234,7 @@ means-some {s} k Figures b e = figure-some (k .sound (figures-planned s e))
 means-some {s} k (Straight n t) b e = new-some (straight-makes n t) e
 means-some {s} k (Powers n t q) b e = new-some (powers-makes n t q) e
 means-some {s} k (Ruler n) b e = new-some (ruler-makes n) e
+means-some {s} k Fetch b e = list-some (k .sound (fetch-planned s e))
 
 -- the symbol that a command read from bytes gives is a byte
 record Small (c : Command) : Type 0 where
@@ -242,7 +257,8 @@ command-small b h =
     (pick (eqb (one b 0) 0x08) (record { small = omega arith })
     (pick (eqb (one b 0) 0x09) (record { small = omega arith })
     (pick (eqb (one b 0) 0x0A) (record { small = omega arith })
-    (pick (eqb (one b 0) 0x0B) (record { small = omega arith }) (record { small = omega arith })))))))))))
+    (pick (eqb (one b 0) 0x0B) (record { small = omega arith })
+    (pick (eqb (one b 0) 0x0C) (record { small = omega arith }) (record { small = omega arith }))))))))))))
 
 bytes-drop : (k : ℕ) (b : List ℕ) → Bytes b → Bytes (drop k b)
 bytes-drop k b h i = rw (getD-drop k b i 0) (h (k + i))

@@ -18,6 +18,7 @@ use Rattle.math.specs.GcdLaws.{gcdAll-le}
 use Rattle.math.specs.Members.{upTo}
 use Rattle.math.specs.MembersLaws.{length-upTo, getD-upTo, upTo-suc}
 use Rattle.math.specs.Tests.{and-left, and-right}
+use Rattle.math.specs.Padded.{zeros-at}
 use Rattle.refusals.specs.Refusals.{checkNumber, unless, _then_}
 use Rattle.refusals.specs.RefusalLaws.{pass-not-stop, stop-same, unless-pass, then-pass}
 use Rattle.refusals.specs.declared.Refusal.{Refusal}
@@ -163,11 +164,6 @@ blank-good n t =
     let size = unless-pass (sizeFits n t) Size e in
     made-good n t (replicate n 0) size (length-replicate n 0)
     (below-allBelow t (replicate n 0) (λ j h. rw (zeros-at n j) (size-fitting n t size .t-min))))
-  where
-    zeros-at : (k i : ℕ) → _≡_ {A = ℕ} (getD (replicate k 0) i 0) 0
-    zeros-at zero i = refl
-    zeros-at (suc k) zero = refl
-    zeros-at (suc k) (suc i) = zeros-at k i
 
 pub straight-good : (n t : ℕ) → straightOf n t .answer ≡ Pass → planCheck (straightOf n t .plan) ≡ Pass
 unfolding straightOf

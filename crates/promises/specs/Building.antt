@@ -1,7 +1,7 @@
--- How an answer keeps its promise: each outcome of recover, encode and message_of with what it has to show.
+-- How an answer keeps its promise: each outcome of recover, encode, message_of and fetch with what it has to show.
 -- Main results: decides-recovered, decides-loose, decides-crossed; recovers-refused, recovers-passed; encodes-refused, encodes-done;
--- reads-refused, reads-read, reads-crossed.
-use mathlib.Core.Path.{_≡_, refl, sym, _∙_}
+-- reads-refused, reads-read, reads-crossed; fetches-refused, fetches-fetched.
+use mathlib.Core.Path.{_≡_, refl, sym, _∙_, ap}
 use mathlib.Core.Logic.{_≢_}
 use mathlib.Core.Bool.{true}
 use mathlib.Core.List.{List, [], _∷_, map}
@@ -23,6 +23,7 @@ use Rattle.code.specs.Marks.{markBytes, markCount, NoSpare, erasures}
 use Rattle.code.specs.Cycles.{Cycle}
 use Rattle.code.specs.Components.{Inconsistent}
 use Rattle.code.specs.Messages.{Carries}
+use Rattle.code.specs.FetchList.{FetchBits}
 use Rattle.code.specs.Theorems.{crossed, two}
 use Rattle.code.specs.Laws.Forest.{Erased}
 use Rattle.code.specs.Laws.Basics.{∈-places}
@@ -30,7 +31,7 @@ use Rattle.code.specs.Laws.Decide.{none-agrees}
 use Rattle.code.specs.Laws.Carrying.{carried-same}
 use Rattle.code.specs.Laws.MarksLaws.{markCount-zero}
 use Rattle.code.specs.Laws.ParityCount.{messages, message-lists}
-use Rattle.calls.specs.Calls.{checkOf, lengthsFit, spareClear, noneFrom}
+use Rattle.calls.specs.Calls.{checkOf, countLent, lengthsFit, spareClear, noneFrom}
 use Rattle.calls.specs.CallsLaws.{pass-good, pass-lengths, passes}
 use Rattle.calls.specs.declared.Lent.{Lent}
 use Rattle.refusals.specs.declared.Refusal.{Refusal}
@@ -40,8 +41,10 @@ use Rattle.answers.specs.declared.Recovery.{Recovery}
 use Rattle.answers.specs.declared.Recovery.the-variants.{Recovered, Crossed, Loose, Refused}
 use Rattle.answers.specs.declared.Encoding.the-variants as encoding
 use Rattle.answers.specs.declared.Reading.the-variants as reading
+use Rattle.answers.specs.declared.Fetching.the-variants as fetching
+use Rattle.refusals.specs.Refusals.{checkNumber}
 use Rattle.math.specs.Padded.{padded}
-use Rattle.promises.specs.Promises.{Decides, Recovers, recoverLent, Encodes, Reads, messageLent}
+use Rattle.promises.specs.Promises.{Decides, Recovers, recoverLent, Encodes, Reads, messageLent, Fetches, fetchCheck}
 
 -- 0 is not 1
 pub zero-one : _≡_ {A = ℕ} 0 1 → ⊥
@@ -203,6 +206,13 @@ recover-passes p v m w good a b c spare = sym (passes p (recoverLent v m w) m go
     fits = unfold lengthsFit recoverLent layoutOf layout markBytes in
         simp (eq-eqb (length v) (p .n * p .t) a, eq-eqb (length m) ((p .n * p .t + 7) / 8) b, eq-eqb (length w) (2 * p .t) c)
 
+-- and the same of the marks alone
+pub count-passes : (p : Plan) (m : List ℕ) → planCheck p ≡ Pass → length m ≡ markBytes (layoutOf p) → NoSpare (layoutOf p) m → checkOf p (countLent m) m ≡ Pass
+count-passes p m good long spare = sym (passes p (countLent m) m good fits (clear-spare p m (omega (arith, long)) spare))
+  where
+    fits : lengthsFit (p .n) (p .t) (messageCount (layoutOf p)) (countLent m) ≡ true
+    fits = unfold lengthsFit countLent layoutOf layout markBytes in simp (eq-eqb (length m) ((p .n * p .t + 7) / 8) long)
+
 -- no other codeword of a plan carries the message
 pub carries-single : (p : Plan) → Valid (layoutOf p) → {w d : List ℕ} → Carries (layoutOf p) w d → Single (λ x. Carries (layoutOf p) x d)
 carries-single p ok {w} {d} a = record {
@@ -279,4 +289,23 @@ reads-crossed p v d pass n = record {
   crossed-keeps = λ _. refl;
   not-refused = λ _ x q. zero-one (cc);
   number = λ _. (λ q. absurd (omega (arith, q)), λ h. absurd (n h));
+}
+
+-- ---- fetch
+
+pub fetches-refused : (p : Plan) (m l : List ℕ) {x : Refusal} → fetchCheck p m l ≡ Stop x → Fetches p m l (fetching.Refused x) l
+fetches-refused p m l {x} stop = record {
+  refused = λ y q. let e : fetching.Refused x ≡ fetching.Refused y = cc in (e, refl);
+  fetched = λ q. absurd (not-both q stop);
+  listed = λ q. absurd (not-both q stop);
+  number = ap checkNumber (sym stop);
+}
+
+pub fetches-fetched : (p : Plan) (m l : List ℕ) {l' : List ℕ} {z : ℕ} → fetchCheck p m l ≡ Pass →
+    FetchBits (layoutOf p) (erasures (layoutOf p) m) (length m) l' z → Fetches p m l (fetching.Fetched z) l'
+fetches-fetched p m l {z} pass f = record {
+  refused = λ x q. absurd (not-both pass q);
+  fetched = λ _. (z, refl);
+  listed = λ _. f;
+  number = ap checkNumber (sym pass);
 }

@@ -1,25 +1,24 @@
 -- The mark buffer of given erasures: zeros, with the bit of each place set.
 -- Main results: length-marksOf, byte-marksOf, erasures-marksOf, spare-marksOf.
-use mathlib.Core.Path.{_≡_, refl, _∙_, ap}
+use mathlib.Core.Path.{_≡_, refl, _∙_}
 use mathlib.Core.Logic.{by-cases}
 use mathlib.Core.List.{List, [], _∷_}
 use mathlib.Core.List.{List·Memᴰ·head as first, List·Memᴰ·tail as later, List·Memᴰ·not-nil}
 use Prim.Native.Nat.{ℕ, _/_, _%_, _^_, _<_}
-use native.Mathlib.Nat.{zero-div}
 use native.Mathlib.Decide.{ℕ-discrete, decLt}
 use native.Mathlib.Omega.{arith}
 use lib.Bits.{bitOr, or-lt}
-use lib.ListN.{length, getD, set, replicate, length-set, length-replicate, getD-replicate, List·getD-eq-default}
+use lib.ListN.{length, getD, set, replicate, length-set, length-replicate, List·getD-eq-default}
 use lib.Seq.{getD-set-same, getD-set-other}
 use lib.Pow.{pow-lt}
 use Rattle.math.specs.Members.{_∈_}
+use Rattle.math.specs.Padded.{zeros-at}
 use Rattle.math.specs.MembersLaws.{by-place, decIn, rising-ext}
 use Rattle.plan.specs.Layout.{Layout}
-use Rattle.code.specs.Codewords.{bitOf}
 use Rattle.code.specs.Marks.{mark, markBytes, NoSpare, erasures}
 use Rattle.code.specs.Laws.Basics.{places-∈}
 use Rattle.code.specs.Laws.Forest.{Erased}
-use Rattle.code.specs.Laws.MarksLaws.{set-mark, in-erasures, rising-erasures}
+use Rattle.code.specs.Laws.MarksLaws.{mark-none, set-mark, in-erasures, rising-erasures}
 
 -- k bytes with exactly the bits of E
 unfoldable pub marksOf : ℕ → List ℕ → List ℕ
@@ -30,11 +29,6 @@ pub length-marksOf : (k : ℕ) (E : List ℕ) → length (marksOf k E) ≡ k
 unfolding marksOf
 length-marksOf k [] = length-replicate k 0
 length-marksOf k (c ∷ E) = length-set (marksOf k E) (c / 8) (bitOr (getD (marksOf k E) (c / 8) 0) (2 ^ (c % 8))) ∙ length-marksOf k E
-
-zeros-at : (k i : ℕ) → getD {A = ℕ} (replicate k 0) i 0 ≡ 0
-zeros-at k i =
-    by-cases (decLt i k) (λ h. getD-replicate k i 0 0 h)
-    (λ n. List·getD-eq-default (replicate k 0) 0 {n = i} (omega (arith, length-replicate {A = ℕ} k 0)))
 
 pub byte-marksOf : (k : ℕ) (E : List ℕ) (i : ℕ) → getD (marksOf k E) i 0 < 256
 unfolding marksOf
@@ -49,13 +43,9 @@ byte-marksOf k (c ∷ E) i =
     (λ n. omega (arith, List·getD-eq-default (set m (c / 8) y) 0 {n = i} (omega (arith, length-set m (c / 8) y)))))
     (λ n. rw (getD-set-other m (c / 8) i y 0 n) (byte-marksOf k E i))
 
-no-bit : (b : ℕ) → bitOf b 0 ≡ 0
-unfolding bitOf
-no-bit b = ap (λ x. x % 2) (zero-div (2 ^ b))
-
 pub mark-out : (k : ℕ) (E : List ℕ) → ((c : ℕ) → c ∈ E → c / 8 < k) → (c : ℕ) → ¬ (c ∈ E) → mark (marksOf k E) c ≡ 0
-unfolding marksOf mark
-mark-out k [] h c n = ap (bitOf (c % 8)) (zeros-at k (c / 8)) ∙ no-bit (c % 8)
+unfolding marksOf
+mark-out k [] h c n = mark-none k c
 mark-out k (d ∷ E) h c n =
     set-mark (marksOf k E) d (omega (arith, h d (first refl), length-marksOf k E)) .others c (λ e. n (first e))
     ∙ mark-out k E (λ x i. h x (later i)) c (λ i. n (later i))

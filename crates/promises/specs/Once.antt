@@ -1,7 +1,7 @@
 -- The promises fix everything: two outcomes that keep the same promise on the same input are equal. No bound on any entry of a buffer is needed.
 -- That an answer to a call that passes is no refusal follows from the other fields; these laws say so and do not use `not-refused`.
--- Main results: recovers-once, encodes-once, reads-once; decides-not-refused, encodes-not-refused, reads-not-refused.
-use mathlib.Core.Path.{_≡_, refl, sym, _∙_}
+-- Main results: recovers-once, encodes-once, reads-once, fetches-once, fetches-number; decides-not-refused, encodes-not-refused, reads-not-refused.
+use mathlib.Core.Path.{_≡_, refl, sym, _∙_, ap}
 use mathlib.Core.Logic.{_≢_, ⊎-elim}
 use mathlib.Core.List.{List, []}
 use Prim.Native.Nat.{ℕ}
@@ -10,7 +10,7 @@ use Rattle.plan.specs.Plans.{layoutOf}
 use Rattle.plan.specs.declared.Plan.{Plan}
 use Rattle.code.specs.Codewords.{Agrees, Single, TwoOrMore, None}
 use Rattle.code.specs.Messages.{Carries}
-use Rattle.code.specs.Theorems.{forest-or-cycle, forest-unique, two, carries-one}
+use Rattle.code.specs.Theorems.{forest-or-cycle, forest-unique, two, carries-one, fetch-bits-once}
 use Rattle.code.specs.Laws.Forest.{Erased}
 use Rattle.code.specs.Laws.MarksLaws.{erasures-erased}
 use Rattle.calls.specs.Calls.{checkOf}
@@ -24,7 +24,11 @@ use Rattle.answers.specs.declared.Encoding.{Encoding}
 use Rattle.answers.specs.declared.Encoding.the-variants as encoding
 use Rattle.answers.specs.declared.Reading.{Reading}
 use Rattle.answers.specs.declared.Reading.the-variants as reading
-use Rattle.promises.specs.Promises.{Decides, Recovers, recoverLent, Encodes, Reads, messageLent}
+use Rattle.answers.specs.declared.Fetching.{Fetching}
+use Rattle.answers.specs.declared.Fetching.the-variants.{Fetched, Refused as Refusing}
+use Rattle.answers.specs.Answers.{fetchingNumber, fetchingCount}
+use Rattle.refusals.specs.Refusals.{checkNumber}
+use Rattle.promises.specs.Promises.{Decides, Recovers, recoverLent, Encodes, Reads, messageLent, Fetches, fetchCheck}
 use Rattle.promises.specs.Building
 use Rattle.promises.specs.Theorems.{decides-same}
 
@@ -127,3 +131,24 @@ module _ (p : Plan) (v d : List ℕ) (pass : checkOf p (messageLent d v) [] ≡ 
 -- the answer and the message
 pub reads-once : (p : Plan) (v d : List ℕ) {r s : Reading} {d' e' : List ℕ} → Reads p v d r d' → Reads p v d s e' → (r ≡ s) × (d' ≡ e')
 reads-once p v d {r} f g = stop-once (checkOf p (messageLent d v) []) (f .refused) (g .refused) (λ pass. reads-pass p v d pass r f g)
+
+-- ---- fetch
+
+-- the answer and the list
+pub fetches-once : (p : Plan) (m l : List ℕ) {r s : Fetching} {l' k' : List ℕ} → Fetches p m l r l' → Fetches p m l s k' → (r ≡ s) × (l' ≡ k')
+fetches-once p m l {r} {s} f g =
+    stop-once (fetchCheck p m l) (f .refused) (g .refused)
+    (λ pass.
+    let a = f .fetched pass .1 in
+    let b = g .fetched pass .1 in
+    let e = fetch-bits-once (f .listed pass) (g .listed pass) in
+    (a ∙ ap Fetched (sym (ap fetchingCount a) ∙ e .1 ∙ ap fetchingCount b) ∙ sym b, e .0))
+
+-- 01's number of the answer follows from the cases
+pub fetches-number : (p : Plan) (m l : List ℕ) {r : Fetching} {l' : List ℕ} → ((x : Refusal) → fetchCheck p m l ≡ Stop x → (r ≡ Refusing x) × (l' ≡ l)) →
+    (fetchCheck p m l ≡ Pass → (z : ℕ) × (r ≡ Fetched z)) → fetchingNumber r ≡ checkNumber (fetchCheck p m l)
+fetches-number p m l stop pass =
+    ⊎-elim
+    (λ q. ap fetchingNumber (pass q .1) ∙ sym (ap checkNumber q))
+    (λ s. ap fetchingNumber (stop (s .0) (s .1) .0) ∙ sym (ap checkNumber (s .1)))
+    (stop-or-pass (fetchCheck p m l))

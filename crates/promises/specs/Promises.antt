@@ -1,9 +1,10 @@
--- What recover, encode and message_of promise: a field for each sentence of demands 2 and 3 and of 01's "Recovery" and "Sealing".
--- p the plan, v the block, m the marks, w the witness list, each as lent; r the answer; v', w', .. the buffers as they are left.
+-- What recover, encode, message_of and fetch promise: a field for each sentence of demands 2 and 3, of 01's "Recovery" and "Sealing", and of 02's N2.
+-- p the plan, v the block, m the marks, w the witness list, d the message, l the fetch list, each as lent; r the answer; v', w', .. the buffers as they are left.
 use mathlib.Core.Path.{_≡_}
 use mathlib.Core.Logic.{_↔_, _≢_}
 use mathlib.Core.List.{List, []}
 use Prim.Native.Nat.{ℕ, _-_, _*_, _≤_}
+use lib.Dec.{eqb}
 use lib.ListN.{length, replicate}
 use Rattle.math.specs.Members.{_∈_}
 use Rattle.math.specs.Padded.{padded}
@@ -12,24 +13,28 @@ use Rattle.plan.specs.Plans.{layoutOf}
 use Rattle.plan.specs.declared.Plan.{Plan}
 use Rattle.code.specs.Places.{places}
 use Rattle.code.specs.Codewords.{at, syndrome, Codeword, Agrees, Single, TwoOrMore, None}
-use Rattle.code.specs.Marks.{erasures}
+use Rattle.code.specs.Marks.{markBytes, erasures}
 use Rattle.code.specs.Cycles.{Cycle}
 use Rattle.code.specs.Components.{Inconsistent}
 use Rattle.code.specs.Messages.{Carries}
-use Rattle.calls.specs.Calls.{checkOf}
+use Rattle.code.specs.FetchList.{FetchBits}
+use Rattle.calls.specs.Calls.{checkOf, alsoLent, countLent}
 use Rattle.calls.specs.declared.Part.the-variants.{Unlent, Of}
 use Rattle.calls.specs.declared.Lent.{Lent}
-use Rattle.refusals.specs.Refusals.{numberOf}
+use Rattle.refusals.specs.Refusals.{numberOf, checkNumber}
 use Rattle.refusals.specs.declared.Refusal.{Refusal}
 use Rattle.refusals.specs.declared.Refusal.the-variants as refusal
+use Rattle.refusals.specs.declared.Check.{Check}
 use Rattle.refusals.specs.declared.Check.the-variants.{Pass, Stop}
-use Rattle.answers.specs.Answers.{recoveryNumber, recoveryCount, encodingNumber, readingNumber}
+use Rattle.answers.specs.Answers.{recoveryNumber, recoveryCount, encodingNumber, readingNumber, fetchingNumber, fetchingCount}
 use Rattle.answers.specs.declared.Recovery.{Recovery}
 use Rattle.answers.specs.declared.Recovery.the-variants.{Recovered, Crossed, Loose, Refused}
 use Rattle.answers.specs.declared.Encoding.{Encoding}
 use Rattle.answers.specs.declared.Encoding.the-variants as encoding
 use Rattle.answers.specs.declared.Reading.{Reading}
 use Rattle.answers.specs.declared.Reading.the-variants as reading
+use Rattle.answers.specs.declared.Fetching.{Fetching}
+use Rattle.answers.specs.declared.Fetching.the-variants as fetching
 
 -- 01's number of recover's answer: success is 0, crossed 5, loose 6, each in its case and in no other
 pub record Numbered (L : Layout) (E v : List ℕ) (number : ℕ) : Type 0 where
@@ -103,3 +108,14 @@ pub record Reads (p : Plan) (v d : List ℕ) (r : Reading) (d' : List ℕ) : Typ
   pub crossed-keeps : r ≡ reading.Crossed → d' ≡ d
   pub not-refused : checkOf p (messageLent d v) [] ≡ Pass → (x : Refusal) → r ≢ reading.Refused x
   pub number : checkOf p (messageLent d v) [] ≡ Pass → ReadBy p v (readingNumber r)
+
+-- what refuses fetch: the plan, the length of the marks or of the list (each the plan's mark bytes), a spare bit of the marks. What stands in the list as lent is not judged.
+unfoldable pub fetchCheck : Plan → List ℕ → List ℕ → Check
+fetchCheck p m l = alsoLent (checkOf p (countLent m) m) (eqb (length l) (markBytes (layoutOf p)))
+
+-- fetch: "The list comes back as mark bits of its own, as long as the marks; a refusal leaves them". (The marks are only read, and no symbol is lent.)
+pub record Fetches (p : Plan) (m l : List ℕ) (r : Fetching) (l' : List ℕ) : Type 0 where
+  pub refused : (x : Refusal) → fetchCheck p m l ≡ Stop x → (r ≡ fetching.Refused x) × (l' ≡ l)
+  pub fetched : fetchCheck p m l ≡ Pass → (z : ℕ) × (r ≡ fetching.Fetched z)
+  pub listed : fetchCheck p m l ≡ Pass → FetchBits (layoutOf p) (erasures (layoutOf p) m) (length m) l' (fetchingCount r)
+  pub number : fetchingNumber r ≡ checkNumber (fetchCheck p m l)

@@ -1,6 +1,6 @@
--- What follows from the promises of recover, encode and message_of, whatever code keeps them.
+-- What follows from the promises of recover, encode, message_of and fetch, whatever code keeps them.
 -- Main results: answers-one, shown-cycle-unique, influences-nothing, loose-list-one, pair-never-loose, pair-some-loose, read-of-encoded,
--- encode-of-read.
+-- encode-of-read, fetched-never-loose.
 use mathlib.Core.Path.{_≡_, refl, sym, _∙_, ap, subst}
 use mathlib.Core.Logic.{_≢_, _⊎_, ⊎-elim, by-cases}
 use mathlib.Core.List.{List, []}
@@ -16,19 +16,21 @@ use Rattle.plan.specs.Plans.{layoutOf, planCheck}
 use Rattle.plan.specs.PlanLaws.{good-valid}
 use Rattle.plan.specs.declared.Plan.{Plan}
 use Rattle.code.specs.Codewords.{at, syndrome, Agrees, Single, TwoOrMore, None, blank}
-use Rattle.code.specs.Marks.{markBytes, NoSpare, erasures}
+use Rattle.code.specs.Marks.{mark, markBytes, NoSpare, erasures}
 use Rattle.code.specs.Cycles.{Cycle}
 use Rattle.code.specs.Components.{imbalance, Inconsistent}
+use Rattle.code.specs.Places.{places}
 use Rattle.code.specs.Figures.{Pair, pairNumber}
-use Rattle.code.specs.Theorems.{forest-or-cycle, cycle-unique, carries-one, pair-never, pair-some}
+use Rattle.code.specs.Theorems.{forest-or-cycle, cycle-unique, carries-one, pair-never, pair-some, fetched-never}
 use Rattle.code.specs.Laws.Forest.{Erased, Forest, above}
 use Rattle.code.specs.Laws.Balance.{blank-outside}
 use Rattle.code.specs.Laws.Basics.{places-∈, syndrome-ext}
 use Rattle.code.specs.Laws.CycleLaws.{cycle-mono}
 use Rattle.code.specs.Laws.Labels.{componentOf, component-unique}
-use Rattle.code.specs.Laws.MarksLaws.{erasures-erased}
+use Rattle.code.specs.Laws.MarksLaws.{in-erasures, erasures-erased}
 use Rattle.code.specs.Laws.Paths.{above-∈, erased-above}
 use Rattle.calls.specs.Calls.{checkOf}
+use Rattle.calls.specs.CallsLaws.{count-length, also-pass}
 use Rattle.refusals.specs.RefusalLaws.{stop-or-pass}
 use Rattle.refusals.specs.declared.Refusal.{Refusal}
 use Rattle.refusals.specs.declared.Check.the-variants.{Pass, Stop}
@@ -39,8 +41,9 @@ use Rattle.answers.specs.declared.Encoding.{Encoding}
 use Rattle.answers.specs.declared.Encoding.the-variants as encoding
 use Rattle.answers.specs.declared.Reading.{Reading}
 use Rattle.answers.specs.declared.Reading.the-variants as reading
+use Rattle.answers.specs.declared.Fetching.the-variants.{Fetched, Refused as Unfetched}
 use Rattle.math.specs.Padded.{padded}
-use Rattle.promises.specs.Promises.{Decides, Recovers, recoverLent, Encodes, Reads, messageLent}
+use Rattle.promises.specs.Promises.{Decides, Recovers, recoverLent, Encodes, Reads, messageLent, Fetches, fetchCheck}
 use Rattle.promises.specs.Building
 use Rattle.promises.specs.MarksOf.{marksOf, length-marksOf, byte-marksOf, erasures-marksOf, spare-marksOf}
 
@@ -274,3 +277,32 @@ encode-of-read p v d x {d'} {x'} f g pass pass' =
     let one = Building.carries-single p (Building.pass-valid p (messageLent d v) [] pass) a in
     let q = g .encoded-when pass' .1 one in
     (q, one .only-one x' (g .encoded-to pass' q) ∙ sym (one .only-one v a))
+
+-- an answer that lists comes of a call that passes
+fetched-passed : (p : Plan) (m l : List ℕ) {z : ℕ} {l' : List ℕ} → Fetches p m l (Fetched z) l' → fetchCheck p m l ≡ Pass
+fetched-passed p m l f =
+    ⊎-elim (λ e. e) (λ s. absurd (fetched-not-refused (f .refused (s .0) (s .1) .0))) (stop-or-pass (fetchCheck p m l))
+  where
+    fetched-not-refused : {z : ℕ} {x : Refusal} → Fetched z ≡ Unfetched x → ⊥
+    fetched-not-refused e = Building.zero-one (cc)
+
+-- "Taking the list's marks away must leave marks that hold no ring": a block that has no marks but those of m that the list l' leaves is never loose, whatever its symbols
+pub fetched-never-loose : (p : Plan) (v m l m' w : List ℕ) {z : ℕ} {l' : List ℕ} → Fetches p m l (Fetched z) l' →
+    ((c : ℕ) → mark m' c ≡ 1 → (mark m c ≡ 1) × (mark l' c ≡ 0)) →
+    {r : Recovery} {v' w' : List ℕ} → Recovers p v m' w r v' w' → (k : ℕ) → r ≢ Loose k
+unfolding fetchCheck
+fetched-never-loose p v m l m' w {z} {l'} f left {r} {v'} {w'} g k e =
+    let L = layoutOf p in
+    let loose : Recovers p v m' w (Loose k) v' w' = subst (λ (x : Recovery). Recovers p v m' w x v' w') e g in
+    let pass = loose-passed p v m' w loose in
+    let listed = f .listed (fetched-passed p m l f) in
+    let long = count-length p m (also-pass _ _ (fetched-passed p m l f) .0) in
+    let inside : (c : ℕ) → c ∈ erasures L m' → (c ∈ erasures L m) × ¬ (c ∈ listed .list) = λ c i.
+    let o = in-erasures L m' c .0 i in
+    let b = left c (o .1) in
+    let h = places-in p (o .0) in
+    (in-erasures L m c .1 (o .0, b .0), λ j. omega (arith, b .1, listed .bits .exact c (omega (arith, h, long, listed .long)) .1 j)) in
+    fetched-never L (Building.pass-valid p (recoverLent v m' w) m' pass) v (listed .fetch) (erasures-erased L m') inside (loose .passed pass .loose-when .0 (k, refl))
+  where
+    places-in : (q : Plan) {c : ℕ} → c ∈ places (layoutOf q) → c < q .n * q .t
+    places-in q i = unfold layoutOf layout in places-∈ (layoutOf q) i .0

@@ -1,12 +1,13 @@
 -- Each number stands for one refusal, and none for success; what a check that passes, or stops, says of the tests in it.
--- Main results: number-some, number-once, check-number-zero; pass-not-stop, stop-or-pass, decPass, stop-same, unless-pass, then-pass.
+-- Main results: number-some, number-once, check-number-zero; pass-not-stop, stop-or-pass, decPass, stop-same, unless-pass, then-pass; ranked, earlier-pass, then-earlier.
 use mathlib.Core.Path.{_≡_, refl, sym, _∙_, ap}
 use mathlib.Core.Logic.{_⊎_, inl, inr}
 use mathlib.Core.Bool.{Bool, true, false, cond}
-use Prim.Native.Nat.{ℕ, _<_}
+use Prim.Native.Nat.{ℕ, _≤_, _<_}
 use native.Mathlib.Omega.{arith}
 use lib.Dec.{eqb}
-use Rattle.refusals.specs.Refusals.{numberOf, checkNumber, unless, _then_}
+use borrow.Author.Tests.{le-leb, lt-leb}
+use Rattle.refusals.specs.Refusals.{numberOf, checkNumber, unless, _then_, rankOf, firstOf, earlier}
 use Rattle.refusals.specs.declared.Refusal.{Refusal}
 use Rattle.refusals.specs.declared.Refusal.the-variants.{Size, Shift, Length, Spare, Crossed, Loose, Command, Short, Early, Family, Unsealed}
 use Rattle.refusals.specs.declared.Check.{Check}
@@ -73,3 +74,30 @@ unless-pass false x e = absurd (pass-not-stop x (sym e))
 pub then-pass : (a b : Check) → (a then b) ≡ Pass → (a ≡ Pass) × (b ≡ Pass)
 then-pass Pass b e = (refl, e)
 then-pass (Stop x) b e = absurd (pass-not-stop x (sym e))
+
+-- "Order 1, 2, 3, 4; then 5 and 6"; "10 follows 1, and 11 follows 3. In a job: 7, 8, 9, then the others."
+pub ranked : (rankOf Size < rankOf Shift) × (rankOf Shift < rankOf Length) × (rankOf Length < rankOf Spare) × (rankOf Spare < rankOf Crossed) × (rankOf Spare < rankOf Loose)
+    × (rankOf Size < rankOf Family) × (rankOf Length < rankOf Unsealed) × (rankOf Command < rankOf Short) × (rankOf Short < rankOf Early) × (rankOf Early < rankOf Size)
+ranked = (omega arith, omega arith, omega arith, omega arith, omega arith, omega arith, omega arith, omega arith, omega arith, omega arith)
+
+-- which of two refusals is asked first, by their ranks a and b
+pub first-left : (x y : Refusal) {a b : ℕ} → a ≡ rankOf x → b ≡ rankOf y → a ≤ b → x ≡ firstOf x y
+first-left x y e f h = rw (le-leb (rankOf x) (rankOf y) (omega arith))
+
+pub first-right : (x y : Refusal) {a b : ℕ} → a ≡ rankOf x → b ≡ rankOf y → b < a → y ≡ firstOf x y
+first-right x y e f h = rw (lt-leb (rankOf x) (rankOf y) (omega arith))
+
+-- the tests as they came out
+pub earlier-by : {a b c d : Check} → a ≡ c → b ≡ d → earlier c d ≡ earlier a b
+earlier-by e f = rw (e, f)
+
+pub earlier-pass : (a b : Check) → earlier a b ≡ Pass → (a ≡ Pass) × (b ≡ Pass)
+earlier-pass Pass b e = (refl, e)
+earlier-pass (Stop x) Pass e = absurd (pass-not-stop x (sym e))
+earlier-pass (Stop x) (Stop y) e = absurd (pass-not-stop _ (sym e))
+
+-- tests that are made in the order of the table: the one that stops first is the first
+pub then-earlier : (a b : Check) → ((x y : Refusal) → a ≡ Stop x → b ≡ Stop y → rankOf x ≤ rankOf y) → (a then b) ≡ earlier a b
+then-earlier Pass b h = refl
+then-earlier (Stop x) Pass h = refl
+then-earlier (Stop x) (Stop y) h = rw (le-leb (rankOf x) (rankOf y) (h x y refl refl))

@@ -1,7 +1,8 @@
 -- 01, "What is turned away": the number of each refusal, and how tests follow each other.
--- Main definitions: numberOf, checkNumber, unless, _then_.
-use mathlib.Core.Bool.{Bool, true, false}
+-- Main definitions: numberOf, checkNumber, unless, _then_, rankOf, earlier.
+use mathlib.Core.Bool.{Bool, true, false, cond}
 use Prim.Native.Nat.{ℕ}
+use lib.Dec.{leb}
 use Rattle.refusals.specs.declared.Refusal.{Refusal}
 use Rattle.refusals.specs.declared.Refusal.the-variants.{Size, Shift, Length, Spare, Crossed, Loose, Command, Short, Early, Family, Unsealed}
 use Rattle.refusals.specs.declared.Check.{Check}
@@ -36,3 +37,27 @@ infixr 20 _then_
 abbrev pub _then_ : Check → Check → Check
 Pass then c = c
 Stop x then c = Stop x
+
+-- the place of a refusal in the order of tests: "Order 1, 2, 3, 4; then 5 and 6 exclude each other. 10 follows 1, and 11 follows 3. In a job: 7, 8, 9, then the others."
+abbrev pub rankOf : Refusal → ℕ
+rankOf Command = 0
+rankOf Short = 1
+rankOf Early = 2
+rankOf Size = 3
+rankOf Family = 4
+rankOf Shift = 5
+rankOf Length = 6
+rankOf Unsealed = 7
+rankOf Spare = 8
+rankOf Crossed = 9
+rankOf Loose = 10
+
+-- whichever of two is asked first
+abbrev pub firstOf : Refusal → Refusal → Refusal
+firstOf x y = cond (leb (rankOf x) (rankOf y)) x y
+
+-- two tests of one call, whatever order they were made in: the one that stops first by the order above; it passes where both do
+abbrev pub earlier : Check → Check → Check
+earlier Pass c = c
+earlier (Stop x) Pass = Stop x
+earlier (Stop x) (Stop y) = Stop (firstOf x y)

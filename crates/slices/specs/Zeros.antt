@@ -1,5 +1,5 @@
 -- That every number of a list is 0 (allZero), and the loop that tests it.
--- Main results: allZero-at, at-allZero; gathers-none, gathers-more, gathers-all; zeros-at.
+-- Main results: allZero-at, at-allZero; gathers-none, gathers-more, gathers-all.
 use mathlib.Core.Path.{_≡_, refl, sym, _∙_}
 use mathlib.Core.Bool.{Bool, true, _&&_, true≢false}
 use mathlib.Core.List.{List, [], _∷_}
@@ -7,7 +7,7 @@ use Prim.Native.Nat.{ℕ, zero, suc, _+_, _≤_, _<_}
 use native.Mathlib.Omega.{arith}
 use lib.Bits.{bitOr, or-add-and, or-zero-l, and-le-l, and-le-r}
 use lib.Dec.{eqb}
-use lib.ListN.{length, getD, replicate}
+use lib.ListN.{length, getD}
 use borrow.Author.Count.{below-more}
 use borrow.Author.Tests.{eqb-true, eq-eqb, ne-eqb}
 use Rattle.math.specs.MembersLaws.{by-test}
@@ -49,9 +49,3 @@ gathers-all {l} {i} {acc} g h =
     by-test (allZero l)
     (λ t. eq-eqb acc 0 (g .zero (λ k _. allZero-at l t k)) ∙ sym t)
     (λ f. ne-eqb acc 0 (λ e. true≢false (sym (at-allZero l (λ k m. g .zeros e k (omega arith))) ∙ f)) ∙ sym f)
-
--- a list of zeros, number by number
-pub zeros-at : (k i : ℕ) → _≡_ {A = ℕ} (getD (replicate k 0) i 0) 0
-zeros-at zero i = refl
-zeros-at (suc k) zero = refl
-zeros-at (suc k) (suc i) = zeros-at k i

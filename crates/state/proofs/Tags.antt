@@ -11,7 +11,7 @@ use mir.Val.{hasKey}
 use types.Run.{OneOf, miss}
 use Rattle.commands.proofs.Command.{enum}
 use Rattle.commands.specs.declared.Command.{Command}
-use Rattle.commands.specs.declared.Command.the-variants.{NewPlan, SetShift, SetSymbol, MarkOne, MarkRun, Recover, Seal, Show, Figures, Straight, Powers, Ruler}
+use Rattle.commands.specs.declared.Command.the-variants.{NewPlan, SetShift, SetSymbol, MarkOne, MarkRun, Recover, Seal, Show, Figures, Straight, Powers, Ruler, Fetch}
 use Rattle.state.specs.Refusing.{makesPlan}
 
 abbrev tag : Command → ℕ
@@ -22,7 +22,7 @@ abbrev makers : List ℕ
 makers = 0 ∷ 9 ∷ 10 ∷ 11 ∷ []
 
 abbrev others : List ℕ
-others = 1 ∷ 2 ∷ 3 ∷ 4 ∷ 5 ∷ 6 ∷ 7 ∷ 8 ∷ []
+others = 1 ∷ 2 ∷ 3 ∷ 4 ∷ 5 ∷ 6 ∷ 7 ∷ 8 ∷ 12 ∷ []
 
 apart : (c : Command) → ((makesPlan c ≡ true) × T (not (hasKey others (tag c)))) ⊎ ((makesPlan c ≡ false) × T (not (hasKey makers (tag c))))
 unfolding makesPlan
@@ -38,6 +38,7 @@ apart Figures = inr (refl, tt)
 apart (Straight n t) = inl (refl, tt)
 apart (Powers n t q) = inl (refl, tt)
 apart (Ruler n) = inl (refl, tt)
+apart Fetch = inr (refl, tt)
 
 pub tag-makes : (c : Command) → OneOf makers (tag c) → makesPlan c ≡ true
 tag-makes c h = ⊎-elim (λ p. p .0) (λ p. absurd (miss makers (tag c) (p .1) h)) (apart c)

@@ -8,7 +8,7 @@ use Rattle.refusals.specs.declared.Check.{Check}
 use Rattle.refusals.specs.declared.Check.the-variants.{Pass}
 use Rattle.plan.specs.Plans.{blankOf, straightOf, powersOf, rulerOf}
 use Rattle.commands.specs.declared.Command.{Command}
-use Rattle.commands.specs.declared.Command.the-variants.{NewPlan, SetShift, SetSymbol, MarkOne, MarkRun, Recover, Seal, Show, Figures, Straight, Powers, Ruler}
+use Rattle.commands.specs.declared.Command.the-variants.{NewPlan, SetShift, SetSymbol, MarkOne, MarkRun, Recover, Seal, Show, Figures, Straight, Powers, Ruler, Fetch}
 use Rattle.state.specs.State.{State}
 
 -- 9, early: "needs a plan and there is none, or names a section, place or run outside it"; and then the other refusals of a command
@@ -29,6 +29,7 @@ makesPlan Figures = false
 makesPlan (Straight n t) = true
 makesPlan (Powers n t q) = true
 makesPlan (Ruler n) = true
+makesPlan Fetch = false
 
 -- what refuses a command on a state
 unfoldable pub refusalOf : State → Command → Check
@@ -44,3 +45,4 @@ refusalOf s Figures = early (s .planned) true Pass
 refusalOf s (Straight n t) = straightOf n t .answer
 refusalOf s (Powers n t q) = powersOf n t q .answer
 refusalOf s (Ruler n) = rulerOf n .answer
+refusalOf s Fetch = early (s .planned) true Pass

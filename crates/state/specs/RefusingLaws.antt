@@ -15,7 +15,7 @@ use Rattle.refusals.specs.declared.Check.{Check}
 use Rattle.refusals.specs.declared.Check.the-variants.{Stop}
 use Rattle.plan.specs.declared.Plan.{Plan}
 use Rattle.commands.specs.declared.Command.{Command}
-use Rattle.commands.specs.declared.Command.the-variants.{NewPlan, SetShift, SetSymbol, MarkOne, MarkRun, Recover, Seal, Show, Figures, Straight, Powers, Ruler}
+use Rattle.commands.specs.declared.Command.the-variants.{NewPlan, SetShift, SetSymbol, MarkOne, MarkRun, Recover, Seal, Show, Figures, Straight, Powers, Ruler, Fetch}
 use Rattle.state.specs.State.{State}
 use Rattle.state.specs.Refusing.{early, refusalOf}
 
@@ -67,6 +67,7 @@ refusal-same s a p Figures e f = rw e
 refusal-same s a p (Straight n t) e f = refl
 refusal-same s a p (Powers n t q) e f = refl
 refusal-same s a p (Ruler n) e f = refl
+refusal-same s a p Fetch e f = rw e
 
 -- the refusal of a command that is known, on every state with this plan
 pub refusal-by : (planned : Bool) (plan : Plan) {c k : Command} {r : Check} → c ≡ k → r ≡ refusalOf (bare planned plan) k →

@@ -42,6 +42,7 @@ pub fn refusal(planned: bool, plan: Plan, command: Command) -> Check
         Command::Seal => no_plan(planned),
         Command::Show { c } => place(planned, sections, symbols, c as usize),
         Command::Figures => no_plan(planned),
+        Command::Fetch => no_plan(planned),
         _ => Check::Pass,
     }
 }

@@ -1,4 +1,4 @@
-//! Jobs written beside the sheets that document 01 gives them: the commands that print nothing or one symbol, and lines known by hand.
+//! Jobs written beside the sheets that documents 01 and 02 give them: the commands that print nothing or one symbol, and lines known by hand.
 
 /// A job, and its sheet so far. After a refusal only bytes may follow.
 #[derive(Clone, Default)]
@@ -53,6 +53,15 @@ impl Job {
     pub fn known(&mut self, command: &[u8], line: Option<&str>) {
         self.bytes.extend_from_slice(command);
         line.into_iter().for_each(|line| self.line(line));
+    }
+
+    /// A plan of 32 sections of 1,024 symbols, all marked, and 0D so many times. With equal shifts every place but those of the last section is listed, and
+    /// no other line is as long.
+    pub fn longest_lines(&mut self, times: usize) {
+        self.plan(32, 1_024);
+        self.run(0, 32_768);
+        let list: String = (0..31_744).map(|c| format!(" {c}")).collect();
+        (0..times).for_each(|_| self.known(&[0x0D], Some(&format!("fetch 31744{list}"))));
     }
 
     pub fn line(&mut self, line: &str) {
@@ -116,7 +125,7 @@ impl Job {
 pub type Known = (&'static [u8], Option<&'static str>, &'static [u8], &'static str);
 
 /// Every command on a new plan of 2 sections of 16 symbols, its lines by hand.
-pub const COMMANDS: [Known; 12] = [
+pub const COMMANDS: [Known; 13] = [
     (&[0x01, 2, 16, 0], None, &[0x08, 31, 0], "symbol 31 0"),
     (&[0x02, 1, 5, 0], None, &[0x09], "figures 31 31 31 32"),
     (&[0x03, 3, 0, 9], None, &[0x08, 3, 0], "symbol 3 9"),
@@ -129,6 +138,7 @@ pub const COMMANDS: [Known; 12] = [
     (&[0x0A, 2, 16, 0], None, &[0x09], "figures 31 31 31 32"),
     (&[0x0B, 3, 7, 0, 2, 0], None, &[0x09], "figures 13 13 13 6"),
     (&[0x0C, 3], None, &[0x09], "figures 13 13 13 6"),
+    (&[0x0D], Some("fetch 0"), &[0x08, 6, 0], "symbol 6 0"),
 ];
 
 /// Document 01's job, by its commands, each with its line.
@@ -150,9 +160,37 @@ pub const SAMPLE: [(&[u8], Option<&str>); 15] = [
     (&[0x06], Some("crossed 1 0")),
 ];
 
+/// Jobs with fetch lists, and their sheets by hand.
+pub const FETCHES: [(&[u8], &str); 10] = [
+    // document 01's ring: before it is shown, and in a block that is crossed
+    (
+        &[1, 3, 7, 0, 2, 1, 1, 0, 2, 2, 3, 0, 4, 0, 0, 4, 7, 0, 4, 16, 0, 4, 2, 0, 4, 10, 0, 4, 17, 0, 0x0D, 6],
+        "fetch 1 0\nloose 6 0 7 16 2 10 17\nend\n",
+    ),
+    (
+        &[1, 3, 7, 0, 2, 1, 1, 0, 2, 2, 3, 0, 4, 0, 0, 4, 7, 0, 4, 16, 0, 4, 2, 0, 4, 10, 0, 4, 17, 0, 3, 1, 0, 1, 0x0D, 6, 0x0D],
+        "fetch 1 0\ncrossed 1 1\nfetch 1 0\nend\n",
+    ),
+    // two sections, whose one ring is closed by place 0; with its symbol set the others are recovered
+    (
+        &[1, 3, 7, 0, 2, 1, 1, 0, 2, 2, 3, 0, 5, 0, 0, 14, 0, 0x0D, 6, 3, 0, 0, 0, 0x0D, 6],
+        "fetch 1 0\nloose 14 0 7 6 13 5 12 4 11 3 10 2 9 1 8\nfetch 0\nrecovered 13\nend\n",
+    ),
+    // all marked: the data places
+    (&[1, 3, 7, 0, 2, 1, 1, 0, 2, 2, 3, 0, 5, 0, 0, 21, 0, 0x0D], "fetch 8 0 1 2 3 4 5 6 7\nend\n"),
+    // two rings apart from each other
+    (&[1, 2, 4, 0, 2, 1, 2, 0, 5, 0, 0, 8, 0, 0x0D, 6], "fetch 2 0 1\nloose 4 1 5 3 7\nend\n"),
+    (&[1, 2, 1, 0, 5, 0, 0, 2, 0, 0x0D], "fetch 1 0\nend\n"),
+    // no marks; no plan; what comes next is unknown
+    (&[1, 3, 7, 0, 0x0D], "fetch 0\nend\n"),
+    (&[0x0D], "refused 9 0\n"),
+    (&[0x0E], "refused 7 0\n"),
+    (&[1, 3, 7, 0, 0x0D, 0x0E, 0x0D], "fetch 0\nrefused 7 5\n"),
+];
+
 /// A job with every command and every line, worked out by hand: n 2, t 3, shifts 0 1 has one ring, and sealing copies the one data symbol to all
 /// places.
-pub const EVERY: [(&[u8], Option<&str>); 31] = [
+pub const EVERY: [(&[u8], Option<&str>); 34] = [
     (&[0x0C, 3], None),
     (&[0x09], Some("figures 13 13 13 6")),
     (&[0x01, 3, 7, 0], None),
@@ -173,11 +211,14 @@ pub const EVERY: [(&[u8], Option<&str>); 31] = [
     (&[0x08, 3, 0], Some("symbol 3 9")),
     (&[0x05, 0, 0, 6, 0], None),
     (&[0x06], Some("loose 6 0 3 2 5 1 4")),
+    (&[0x0D], Some("fetch 1 0")),
     (&[0x03, 0, 0, 1], None),
+    (&[0x0D], Some("fetch 0")),
     (&[0x06], Some("recovered 5")),
     (&[0x08, 4, 0], Some("symbol 4 1")),
     (&[0x03, 1, 0, 0], None),
     (&[0x06], Some("crossed 1 1")),
+    (&[0x0D], Some("fetch 0")),
     (&[0x04, 1, 0], None),
     (&[0x08, 1, 0], Some("symbol 1 0")),
     (&[0x06], Some("recovered 1")),

@@ -1,6 +1,6 @@
 //! Tests of the desk program from outside: what passes between it and the system, which no contract speaks of.
 //!
-//! Every sheet is compared to the byte. The run ends with status 1 if one is not as document 01 says, or if the program hangs.
+//! Every sheet is compared to the byte. The run ends with status 1 if one is not as documents 01 and 02 say, or if the program hangs.
 
 mod job;
 #[allow(dead_code)]
@@ -8,7 +8,7 @@ mod job;
 mod prng;
 mod program;
 
-use job::{Job, COMMANDS, EVERY, SAMPLE};
+use job::{Job, COMMANDS, EVERY, FETCHES, SAMPLE};
 use prng::Prng;
 use program::{fault, file_of, finish, hung, run, start, Feed, Ran, PIPE};
 use std::fs::{File, OpenOptions};
@@ -21,7 +21,7 @@ use std::thread::sleep;
 use std::time::Duration;
 
 const SEED: u64 = 20_261_116;
-/// The program reads and writes so many bytes at once, or a few more. Jobs and sheets have their turns around it.
+/// The program reads so many bytes at once, and writes when so many wait or a line more. Jobs and sheets have their turns around it.
 const BUFFER: usize = 65_536;
 /// Failures that are shown before the run is broken off.
 const MOST_FAILURES: usize = 10;
@@ -160,7 +160,7 @@ impl Tests {
         self.try_job("an empty file", &[], Feed::File, "end\n");
         for byte in 0..=255u8 {
             let number = match byte {
-                0x06 | 0x07 | 0x09 => 9,
+                0x06 | 0x07 | 0x09 | 0x0D => 9,
                 0x01..=0x0C => 8,
                 _ => 7,
             };
@@ -168,6 +168,19 @@ impl Tests {
             self.try_job(&format!("byte {byte:02X}"), &[byte], Feed::Pipe, &wanted);
             if number != 8 {
                 self.try_job(&format!("byte {byte:02X} and a job"), &[&[byte], &concat(&EVERY)[..]].concat(), Feed::Pipe, &wanted);
+            }
+        }
+    }
+
+    /// Each job with fetch lists: whole, byte by byte and in cuts.
+    fn fetches(&mut self) {
+        for (job, sheet) in FETCHES {
+            let what = format!("{job:02X?}");
+            self.try_job(&what, job, Feed::Pipe, sheet);
+            self.try_job(&format!("{what} byte by byte"), job, Feed::Cuts(&vec![1; job.len()]), sheet);
+            for most in [2, 5, 12] {
+                let cuts = self.cuts(job.len(), most);
+                self.try_job(&format!("{what} in cuts of {cuts:?}"), job, Feed::Cuts(&cuts), sheet);
             }
         }
     }
@@ -223,7 +236,7 @@ impl Tests {
             for offset in end - 7..=end + 7 {
                 let mut job = Job::of(2, 16);
                 job.fill_to(offset);
-                let byte = self.rng.pick(&[0x00, 0x0D, 0x10, 0x45, 0x80, 0xFF]);
+                let byte = self.rng.pick(&[0x00, 0x0E, 0x10, 0x45, 0x80, 0xFF]);
                 self.try_long(&format!("byte {byte:02X} at {offset}"), &job.with(&[byte]), &job.refused(7));
                 self.try_long(&format!("byte {byte:02X} at {offset} and more"), &job.with(&[&[byte], &after[..]].concat()), &job.refused(7));
                 for command in [&[0x08, 32, 0][..], &[0x03, 32, 0, 1], &[0x05, 31, 0, 2, 0], &[0x02, 2, 1, 0]] {
@@ -244,7 +257,7 @@ impl Tests {
         for most in [3, 50, 700, 5_000, 32_768, 32_768] {
             let cuts = self.cuts(job.bytes.len(), most);
             self.try_job(&format!("in cuts of up to {most}"), &job.bytes, Feed::Cuts(&cuts), &job.ended());
-            self.try_job(&format!("in cuts of up to {most}, refused"), &job.with(&[0x0D, 0x09]), Feed::Cuts(&cuts), &job.refused(7));
+            self.try_job(&format!("in cuts of up to {most}, refused"), &job.with(&[0x0E, 0x09]), Feed::Cuts(&cuts), &job.refused(7));
         }
     }
 
@@ -287,6 +300,28 @@ impl Tests {
         }
     }
 
+    /// The longest line that there is, longer than a buffer: alone, then several times where the sheet's buffer ends; whole and in cuts.
+    fn longest_line(&mut self) {
+        let mut job = Job::default();
+        job.longest_lines(1);
+        assert!(job.bytes == [0x01, 0x20, 0x00, 0x04, 0x05, 0x00, 0x00, 0x00, 0x80, 0x0D] && job.sheet.len() == 179_366, "the longest line");
+        for feed in [Feed::Pipe, Feed::File, Feed::Cuts(&[1; 10])] {
+            self.try_job("alone", &job.bytes, feed, &job.ended());
+            self.try_job("and an unknown byte", &job.with(&[0x0E, 0x0D]), feed, &job.refused(7));
+            self.try_job("and a command that is cut", &job.with(&[0x08, 0]), feed, &job.refused(8));
+        }
+        for length in BUFFER - 12..=BUFFER + 12 {
+            let mut job = Job::of(2, 16);
+            job.lines_to(length);
+            job.longest_lines(1);
+            job.show(32_767);
+            job.longest_lines(2);
+            self.try_job(&format!("after {length} bytes"), &job.bytes, Feed::File, &job.ended());
+            let cuts = self.cuts(job.bytes.len(), 4_000);
+            self.try_job(&format!("after {length} bytes, in cuts of {cuts:?}"), &job.bytes, Feed::Cuts(&cuts), &job.ended());
+        }
+    }
+
     // ---- the program's two ends
 
     /// The lines that are due come before more of the job is there; and after a refusal the program ends though more could come.
@@ -302,11 +337,13 @@ impl Tests {
         job.write(&[0]);
         job.write(&[0x06, 0x09]);
         self.due(&mut job, "two more", "recovered 1\nfigures 7 1 1 2\n");
+        job.write(&[0x05, 6, 0, 15, 0, 0x0D]);
+        self.due(&mut job, "a list", "fetch 8 6 7 8 9 10 11 12 13\n");
         drop(job.stdin.take());
         self.due(&mut job, "the last line", "end\n");
         self.over(job, "after the end of the job");
 
-        for (bytes, line) in [(&[0x0D][..], "refused 7 4\n"), (&[0x08, 21, 0], "refused 9 4\n"), (&[0x0A, 2, 1, 0], "refused 10 4\n")] {
+        for (bytes, line) in [(&[0x0E][..], "refused 7 4\n"), (&[0x08, 21, 0], "refused 9 4\n"), (&[0x0A, 2, 1, 0], "refused 10 4\n")] {
             let mut job = Open::of();
             job.write(&[0x01, 3, 7, 0]);
             job.write(bytes);
@@ -341,9 +378,11 @@ impl Tests {
     /// The reader takes a long sheet in small pieces. The program is stopped and set going again while it waits in a write, which then ends before
     /// all is written.
     fn slow_reader(&mut self) {
-        let mut job = Job::of(32, 64);
-        job.fill_to(2 * BUFFER);
-        for most in [900, 5_000, 40_000] {
+        let mut lines = Job::of(32, 64);
+        lines.fill_to(2 * BUFFER);
+        let mut long_lines = Job::default();
+        long_lines.longest_lines(3);
+        for (job, most) in [(&lines, 900), (&lines, 5_000), (&lines, 40_000), (&long_lines, 5_000), (&long_lines, 40_000)] {
             let mut child = start(Stdio::from(file_of(&job.bytes)), Stdio::piped(), nothing);
             let mut stdout = child.stdout.take().unwrap();
             let mut sheet = vec![];
@@ -372,8 +411,16 @@ impl Tests {
 
     /// The reader goes away at once or in the middle: the program ends, by the signal or, where that is ignored, by itself.
     fn reader_gone(&mut self) {
-        let mut job = Job::of(32, 64);
-        job.fill_to(2 * BUFFER);
+        let mut lines = Job::of(32, 64);
+        lines.fill_to(2 * BUFFER);
+        let mut long_lines = Job::default();
+        long_lines.longest_lines(3);
+        for job in [lines, long_lines] {
+            self.reader_gone_from(&job);
+        }
+    }
+
+    fn reader_gone_from(&mut self, job: &Job) {
         let sheet = job.ended();
         assert!(sheet.len() > 4 * PIPE, "a sheet that does not fit into a pipe");
         for (way, ignored) in [("by the signal", false), ("with the signal ignored", true)] {
@@ -517,16 +564,18 @@ impl Open {
 fn main() {
     let start = std::time::Instant::now();
     let mut tests = Tests { rng: Prng::of(SEED), name: "", sheets: 0, failures: 0 };
-    let all: [Test; 12] = [
+    let all: [Test; 14] = [
         ("examples", Tests::examples),
         ("the sample job cut everywhere", |tests| tests.ends_everywhere(&SAMPLE)),
         ("every command cut everywhere", |tests| tests.ends_everywhere(&EVERY)),
         ("one byte", Tests::one_byte),
+        ("fetch lists", Tests::fetches),
         ("lines when due", Tests::lines_when_due),
         ("reader gone", Tests::reader_gone),
         ("unreadable", Tests::unreadable),
         ("slow reader", Tests::slow_reader),
         ("long lists", Tests::long_lists),
+        ("the longest line", Tests::longest_line),
         ("long jobs in cuts", Tests::long_in_cuts),
         ("refused far", Tests::refused_far),
         ("straddling", Tests::straddling),

@@ -14,7 +14,7 @@ const JOBS: usize = 20_000;
 const THREADS: usize = 2;
 
 /// Every outcome that must be met: first byte of the command (0: no command), and what came of it.
-const OUTCOMES: [(u8, &[&str]); 13] = [
+const OUTCOMES: [(u8, &[&str]); 14] = [
     (0x01, &["first plan", "another plan", "refused 1", "refused 8"]),
     (0x02, &["done", "refused 2", "refused 8", "refused 9, no plan", "refused 9, outside"]),
     (0x03, &["done", "refused 8", "refused 9, no plan", "refused 9, outside"]),
@@ -27,26 +27,33 @@ const OUTCOMES: [(u8, &[&str]); 13] = [
     (0x0A, &["first plan", "another plan", "refused 1", "refused 8", "refused 10"]),
     (0x0B, &["first plan", "another plan", "refused 1", "refused 8", "refused 10"]),
     (0x0C, &["first plan", "another plan", "refused 1", "refused 8", "refused 10"]),
+    (0x0D, &["no marks", "empty", "listed", "listed, large", "all marked", "refused 9, no plan"]),
     (0, &["refused 7", "end"]),
 ];
 /// Each at least so often.
 const EACH: usize = 100;
 
 /// Kinds of jobs, and how many of each there are at least.
-const KINDS: [(&str, usize); 6] = [
+const KINDS: [(&str, usize); 12] = [
     ("in cuts", 2_000),
     ("from a file", 1_000),
     ("three plans or more", 2_000),
     ("1,000 commands or more", 50),
     ("a sheet of 65,536 bytes or more", 10),
     ("empty", 50),
+    ("0D before 06", 1_000),
+    ("0D after recovered", 500),
+    ("0D after loose", 500),
+    ("0D after crossed", 500),
+    ("loose, fetched and recovered", 200),
+    ("a line of 100,000 bytes or more", 10),
 ];
 
 #[derive(Default)]
 pub struct Met {
     jobs: usize,
     events: BTreeMap<Event, usize>,
-    kinds: [usize; 6],
+    kinds: [usize; KINDS.len()],
     mismatches: usize,
 }
 
@@ -93,6 +100,8 @@ impl Met {
             std::process::exit(1);
         }
         let plans = wanted.events.iter().filter(|(_, word)| word.ends_with("plan") && !word.starts_with("refused")).count();
+        let followed = |first: fn(&Event) -> bool, then: fn(&Event) -> bool| wanted.events.windows(2).any(|two| first(&two[0]) && then(&two[1]));
+        let fetch = |event: &Event| event.0 == 0x0D;
         let of_kind = [
             matches!(feed, Feed::Cuts(_)),
             matches!(feed, Feed::File),
@@ -100,6 +109,12 @@ impl Met {
             wanted.events.len() > 1_000,
             ran.sheet.len() >= 65_536,
             job.is_empty(),
+            followed(fetch, |event| event.0 == 0x06),
+            followed(|event| event.1.starts_with("recovered"), fetch),
+            followed(|event| event.1.starts_with("loose"), fetch),
+            followed(|event| event.1.starts_with("crossed"), fetch),
+            fetched_and_recovered(&wanted.events),
+            ran.sheet.split(|byte| *byte == b'\n').any(|line| line.len() >= 100_000),
         ];
         (0..KINDS.len()).for_each(|i| self.kinds[i] += usize::from(of_kind[i]));
         wanted.events.into_iter().for_each(|event| *self.events.entry(event).or_default() += 1);
@@ -118,10 +133,18 @@ impl Met {
             println!("{:<7}{}", if first == 0 { "job".to_string() } else { format!("{first:02X}") }, cells.join("; "));
         }
         let cells: Vec<String> = KINDS.iter().zip(self.kinds).map(|((what, least), count)| cell(what, count, *least)).collect();
-        println!("jobs   {}", cells.join("; "));
+        cells.chunks(6).for_each(|row| println!("jobs   {}", row.join("; ")));
         println!("{} jobs, {} mismatches", self.jobs, self.mismatches);
         enough && self.mismatches == 0
     }
+}
+
+/// Whether there is a loose block in which no more than a fetch list was set before it was recovered.
+fn fetched_and_recovered(events: &[Event]) -> bool {
+    events.windows(2).enumerate().any(|(i, two)| {
+        let then = events[i + 2..].iter().find(|event| event.0 != 0x03);
+        two[0].1.starts_with("loose") && two[1].0 == 0x0D && then.is_some_and(|event| event.1.starts_with("recovered"))
+    })
 }
 
 /// All jobs.

@@ -1,11 +1,11 @@
-//! The job and its sheet, from document 01 alone. Recovery, sealing and figures are those of `reference`.
+//! The job and its sheet, from document 01 alone, and 02 for command 0D. Recovery, sealing, figures and fetch lists are those of `reference`.
 
 use crate::reference::{self, Agree, Code};
 use fumizhaki::Plan;
 use std::rc::Rc;
 
 /// The commands: first byte, and the widths of the operands.
-pub const COMMANDS: [(u8, &[usize]); 12] = [
+pub const COMMANDS: [(u8, &[usize]); 13] = [
     (0x01, &[1, 2]),
     (0x02, &[1, 2]),
     (0x03, &[2, 1]),
@@ -18,6 +18,7 @@ pub const COMMANDS: [(u8, &[usize]); 12] = [
     (0x0A, &[1, 2]),
     (0x0B, &[1, 2, 2]),
     (0x0C, &[1]),
+    (0x0D, &[]),
 ];
 
 /// From so many places on a plan is called large here.
@@ -80,6 +81,19 @@ impl Table {
         }
     }
 
+    /// "Job command 0D prints `fetch`, the count and the list."
+    fn fetch(&mut self) -> (&'static str, Line) {
+        let list = self.code().fetch(&self.marked);
+        let word = match (list.len(), self.marked.contains(&true), self.marked.contains(&false)) {
+            (0, false, _) => "no marks",
+            (0, true, _) => "empty",
+            (_, _, false) => "all marked",
+            _ if self.symbols.len() >= LARGE => "listed, large",
+            _ => "listed",
+        };
+        (word, Line::Text(numbers("fetch", &[&[list.len()], &list[..]].concat())))
+    }
+
     fn seal(&mut self) -> Line {
         let code = self.code();
         let data: Vec<u8> = code.message_places.iter().map(|c| self.symbols[*c]).collect();
@@ -90,7 +104,7 @@ impl Table {
 }
 
 fn numbers(word: &str, list: &[usize]) -> String {
-    list.iter().fold(word.to_string(), |line, x| format!("{line} {x}"))
+    list.iter().fold(word.to_string(), |line, x| line + " " + &x.to_string())
 }
 
 /// A command on what stands on the desk: the line that it writes, and in a word what it did; or the number that refuses it.
@@ -148,6 +162,10 @@ fn perform(desk: &mut Option<Table>, first: u8, x: &[usize]) -> Result<(&'static
         }
         0x07 => Some(table.seal()),
         0x08 => Some(Line::Text(format!("symbol {} {}", x[0], table.symbols[x[0]]))),
+        0x0D => {
+            let (word, line) = table.fetch();
+            return Ok((word, Some(line)));
+        }
         _ => Some(Line::Text(numbers("figures", &table.code().figures()))),
     };
     Ok(("done", line))

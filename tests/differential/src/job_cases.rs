@@ -38,6 +38,8 @@ pub fn fixed() -> Vec<Vec<u8>> {
             let places = u32::from(n) * u32::from(t);
             let [last, after] = [places.wrapping_sub(1), places].map(|c| (c as u16).to_le_bytes());
             jobs.push(vec![0x01, n, low, high, 0x09, 0x08, last[0], last[1], 0x08, after[0], after[1]]);
+            // all marked: the fetch list, twice, and what is recovered between them
+            jobs.push(vec![0x01, n, low, high, 0x0D, 0x05, 0, 0, after[0], after[1], 0x0D, 0x06, 0x0D]);
             jobs.push(vec![0x0A, n, low, high, 0x09]);
             jobs.extend([0, 1, 2, 5].map(|q| vec![0x0B, n, low, high, q, 0, 0x09]));
         }
@@ -236,21 +238,31 @@ impl Writer<'_> {
         if self.rng.once_in(3) {
             self.put(0x09, &[]);
         }
-        let marked = if self.rng.once_in(6) { vec![false; places] } else { cases::marks(self.rng, &Code::of(&self.plan)) };
+        let mut marked = if self.rng.once_in(6) { vec![false; places] } else { cases::marks(self.rng, &Code::of(&self.plan)) };
         self.marks(&marked);
         while self.rng.once_in(4) {
             let (c, v) = (self.rng.below(places), self.rng.below(256));
             self.put(0x03, &[c, v]);
+            marked[c] = false;
         }
         while self.rng.once_in(5) {
             let (c, m) = self.run();
             self.put(0x05, &[c, m]);
+            marked[c..c + m].fill(true);
         }
         if self.rng.once_in(8) {
             let (j, p) = (self.rng.below(self.plan.n), self.rng.below(self.plan.t));
             self.shift(j, p);
         }
+        if self.size > 2 || self.rng.once_in(3) {
+            self.put(0x0D, &[]);
+        }
         self.put(0x06, &[]);
+        match self.rng.below(6) {
+            0 | 1 => self.put(0x0D, &[]),
+            2 => self.fetched(&marked),
+            _ => (),
+        }
         for _ in 0..self.rng.below(6) {
             let c = self.place();
             self.put(0x08, &[c]);
@@ -262,6 +274,16 @@ impl Writer<'_> {
             self.put(0x06, &[]);
             self.put(0x08, &[c]);
         }
+    }
+
+    /// What stands on the fetch list of these marks is set, and then recovery is tried again: a block that was loose is recovered.
+    fn fetched(&mut self, marked: &[bool]) {
+        self.put(0x0D, &[]);
+        for c in Code::of(&self.plan).fetch(marked) {
+            let v = self.rng.below(256);
+            self.put(0x03, &[c, v]);
+        }
+        self.put(0x06, &[]);
     }
 
     /// These places marked, by runs and one by one.
@@ -289,15 +311,16 @@ impl Writer<'_> {
             }
             6..=10 => self.put(0x07, &[]),
             11..=19 => self.put(0x06, &[]),
-            20..=39 => {
+            20..=27 => self.put(0x0D, &[]),
+            28..=47 => {
                 let (c, m) = self.run();
                 self.put(0x05, &[c, m]);
             }
-            40..=79 => {
+            48..=87 => {
                 let c = self.place();
                 self.put(0x04, &[c]);
             }
-            80..=119 => {
+            88..=127 => {
                 let (c, v) = (self.place(), self.rng.below(256));
                 self.put(0x03, &[c, v]);
             }
@@ -317,7 +340,8 @@ impl Writer<'_> {
             self.put(0x08, &[c]);
         }
         if self.rng.once_in(4) {
-            self.put(0x06, &[]);
+            let first = self.rng.pick(&[0x06, 0x0D]);
+            self.put(first, &[]);
         }
     }
 
@@ -325,8 +349,8 @@ impl Writer<'_> {
         match last {
             Last::End => return,
             Last::Unknown => {
-                let any = self.rng.between(13, 255) as u8;
-                let byte = self.rng.pick(&[0x00, 0x0D, 0x0E, 0x10, 0x11, 0x80, 0x81, 0xFF, any]);
+                let any = self.rng.between(14, 255) as u8;
+                let byte = self.rng.pick(&[0x00, 0x0E, 0x0F, 0x10, 0x11, 0x80, 0x81, 0xFF, any]);
                 self.job.push(byte);
             }
             Last::Cut => {
@@ -344,7 +368,7 @@ impl Writer<'_> {
                 return;
             }
             Last::NoPlan => {
-                let first = self.rng.pick(&[0x02, 0x03, 0x04, 0x05, 0x06, 0x07, 0x08, 0x09]);
+                let first = self.rng.pick(&[0x02, 0x03, 0x04, 0x05, 0x06, 0x07, 0x08, 0x09, 0x0D]);
                 let operands = [self.rng.pick(&[0, 0, 1, 255]), self.rng.pick(&[0, 0, 1, 255])];
                 self.put(first, &operands);
             }
@@ -456,7 +480,7 @@ impl Writer<'_> {
         let length = self.rng.below(60);
         let small = !self.rng.once_in(3);
         for _ in 0..length {
-            let byte = if small { self.rng.pick(&[0, 0, 0, 1, 2, 3, 4, 5, 6, 6, 7, 8, 8, 8, 9, 10, 11, 12]) } else { self.rng.next() as u8 };
+            let byte = if small { self.rng.pick(&[0, 0, 0, 1, 2, 3, 4, 5, 6, 6, 7, 8, 8, 8, 9, 10, 11, 12, 13]) } else { self.rng.next() as u8 };
             self.job.push(byte);
         }
     }

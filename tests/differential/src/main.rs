@@ -24,7 +24,7 @@ const SEED: u64 = 20_261_115;
 const MARGIN: usize = 16;
 
 /// Every outcome that must be met: entry, numbers.
-const OUTCOMES: [(&str, &[u8]); 12] = [
+const OUTCOMES: [(&str, &[u8]); 15] = [
     ("plan_of", &[0, 1, 2]),
     ("straight", &[0, 1, 10]),
     ("powers", &[0, 1, 10]),
@@ -36,10 +36,15 @@ const OUTCOMES: [(&str, &[u8]); 12] = [
     ("figures, drum", &[0]),
     ("erasure_count", &[0, 1, 2, 3, 4]),
     ("recover", &[0, 1, 2, 3, 4, 5, 6]),
+    // lists with a place in them, empty ones, and those of marks at all places
+    ("fetch", &[0, 1, 2, 3, 4]),
+    ("fetch, empty", &[0]),
+    ("fetch, all", &[0]),
     ("encode", &[0, 1, 2, 3]),
     ("message_of", &[0, 1, 2, 3, 5]),
 ];
-/// Cases of each outcome at least, cases of recovered, crossed and loose at each size at least, and cases in all at least.
+/// Cases of each outcome at least; cases of recovered, crossed and loose, of lists with places and of empty ones, at each size at least; and cases in
+/// all at least.
 const EACH: usize = 300;
 const EACH_SIZE: usize = 100;
 const IN_ALL: usize = 200_000;
@@ -198,6 +203,27 @@ impl Run {
         self.hold("recover", size, number, || format!("{}, block {block:?}, marks {marks:?}", show(plan)), &got, &expected);
     }
 
+    fn fetch(&mut self, plan: &Plan, code: Result<&Code, u8>, size: usize, marks: &[u8], list: &[u8]) {
+        let Left { number, count, written } = reference::fetch(code, marks, list);
+        let edge = self.rng.next() as u8;
+        let lend = |list: &[u8]| (Lent::of(marks, edge), Lent::of(list, edge));
+        let mut lent = lend(list);
+        let mut counted = usize::MAX;
+        let (m, l) = (lent.0.inner(), lent.1.inner());
+        let raw = unsafe { sys::fumizhaki_fetch(*plan, m.as_ptr(), m.len(), l.as_mut_ptr(), l.len(), &mut counted) };
+        let mut again = lend(list);
+        let safe = plan.fetch(again.0.inner(), again.1.inner()).map_err(Refusal::number);
+        let entry = match (number, code) {
+            (0, Ok(code)) if reference::bits(marks, code.places()).iter().all(|marked| *marked) => "fetch, all",
+            (0, _) if count == 0 => "fetch, empty",
+            _ => "fetch",
+        };
+        let got = (raw, counted, safe, lent, again);
+        let after = lend(&written);
+        let expected = (number, count, if number == 0 { Ok(count) } else { Err(number) }, after.clone(), after);
+        self.hold(entry, size, number, || format!("{}, marks {marks:?}, list {list:?}", show(plan)), &got, &expected);
+    }
+
     fn encode(&mut self, plan: &Plan, code: Result<&Code, u8>, size: usize, message: &[u8], block: &[u8]) {
         let wanted = reference::encode(code, message, block);
         self.written("encode", plan, size, sys::fumizhaki_encode, Plan::encode, wanted, message, block);
@@ -224,7 +250,7 @@ impl Run {
 
     // ---- what is tried on a plan
 
-    /// One accepted plan: its figures, `turns` recoveries and some messages, and a refusal of each kind.
+    /// One accepted plan: its figures, `turns` recoveries, some messages and fetch lists, and a refusal of each kind.
     fn accepted(&mut self, size: usize, turns: usize) {
         let plan = cases::good_plan(&mut self.rng, size);
         let built = Code::of(&plan);
@@ -247,6 +273,10 @@ impl Run {
             let witness = self.rng.words(2 * plan.t);
             self.recover(&plan, code, size, &block, &marks, &witness);
             self.erasure_count(&plan, code, size, &marks);
+            if turn % 2 == 0 {
+                let list = self.rng.bytes(marks.len());
+                self.fetch(&plan, code, size, &marks, &list);
+            }
         }
         self.refused(&plan, code, size);
     }
@@ -257,6 +287,7 @@ impl Run {
         for wrong in [1, 2, 4, 8, several] {
             self.lengths(plan, code, size, wrong);
         }
+        self.fetch_lengths(plan, code, size);
         let Ok(code) = code else { return };
         let spare = (8 - code.places() % 8) % 8;
         let (block, witness) = (self.rng.bytes(code.places()), self.rng.words(2 * code.t));
@@ -266,6 +297,47 @@ impl Run {
             marks[last] = marks[last] & (0xFF >> spare) | 1 << bit;
             self.recover(plan, Ok(code), size, &block, &marks, &witness);
             self.erasure_count(plan, Ok(code), size, &marks);
+            let list = self.rng.bytes(marks.len());
+            self.fetch(plan, Ok(code), size, &marks, &list);
+        }
+    }
+
+    /// Marks and list of the plan's length, of none, of one less and of one more, with every spare bit 0 and with every one 1: each refusal alone and
+    /// with all that come after it. Where nothing refuses, every other place or so is marked.
+    fn fetch_lengths(&mut self, plan: &Plan, code: Result<&Code, u8>, size: usize) {
+        let places = if plan.n <= 40 && plan.t <= 2_100 { plan.n * plan.t } else { self.rng.below(100) };
+        let right = places.div_ceil(8);
+        let used = 0xFF >> (8 * right - places);
+        let lengths = [right, 0, right.saturating_sub(1), right + 1];
+        let spares = if used == 0xFF { &[0][..] } else { &[0, !used] };
+        for (of_marks, of_list) in lengths.into_iter().flat_map(|m| lengths.map(|l| (m, l))) {
+            for spare in spares {
+                let (mut marks, list) = (self.rng.bytes(of_marks), self.rng.bytes(of_list));
+                marks.last_mut().into_iter().for_each(|last| *last = *last & used | spare);
+                self.fetch(plan, code, size, &marks, &list);
+            }
+        }
+    }
+
+    /// No marks, all marks, and all but the lowest or the highest, at the bounds of n and t, with equal shifts and with others.
+    fn fetch_at_bounds(&mut self) {
+        for (n, t, size) in [(2, 1, 0), (3, 1, 0), (2, 2, 0), (32, 1, 1), (2, 2_048, 3), (16, 2_048, 4), (32, 1_024, 4), (32, 1_023, 4)] {
+            for kind in 0..3 {
+                let mut plan = Plan { n, t, shifts: [u16::MAX; 32] };
+                (0..n).for_each(|j| plan.shifts[j] = [0, t - 1, j % t][kind] as u16);
+                let code = Code::of(&plan);
+                let mut marked = vec![vec![false; n * t], vec![true; n * t], vec![true; n * t], vec![true; n * t]];
+                marked[2][0] = false;
+                marked[3][n * t - 1] = false;
+                for marked in marked {
+                    let marks = cases::to_bytes(&marked);
+                    let list = self.rng.bytes(marks.len());
+                    self.fetch(&plan, Ok(&code), size, &marks, &list);
+                }
+                // a ring of two is in every two sections of equal shifts, at each symbol
+                let equal = (0..(n - 1) * t).collect::<Vec<_>>();
+                assert!(kind == 2 || code.fetch(&vec![true; n * t]) == equal, "the reference's fetch list with equal shifts");
+            }
         }
     }
 
@@ -300,6 +372,8 @@ impl Run {
                 let witness = self.rng.words(2 * t);
                 self.recover(&plan, Ok(&built), 0, &vec![0; n * t], marks, &witness);
                 self.recover(&plan, Ok(&built), 0, &other, marks, &witness);
+                let list = self.rng.bytes(marks.len());
+                self.fetch(&plan, Ok(&built), 0, marks, &list);
             }
         }
     }
@@ -320,6 +394,7 @@ impl Run {
         for (n, t) in [(2, 1), (2, 2), (2, 3), (2, 4), (3, 1), (3, 2), (3, 3), (4, 1), (4, 2), (5, 1)] {
             self.exhaust(n, t);
         }
+        self.fetch_at_bounds();
         for (size, plans, turns) in [(0, 4_000, 12), (1, 4_000, 15), (2, 900, 12), (3, 300, 12), (4, 240, 12)] {
             for _ in 0..plans {
                 self.accepted(size, turns);
@@ -348,7 +423,7 @@ impl Run {
                 let c = self.cases.get(&(entry, *number)).copied().unwrap_or_default();
                 let sum: usize = c.iter().sum();
                 total += sum;
-                let decided = entry == "recover" && [0, 5, 6].contains(number);
+                let decided = entry == "recover" && [0, 5, 6].contains(number) || ["fetch", "fetch, empty"].contains(&entry) && *number == 0;
                 let few = sum < EACH || decided && c[..NO_PLAN].iter().any(|x| *x < EACH_SIZE);
                 enough &= !few;
                 line(entry, &number.to_string(), c.map(|x| x.to_string()), &format!("{sum}{}", if few { " TOO FEW" } else { "" }));

@@ -2,15 +2,18 @@
 //!
 //! Every question is answered in more than one way where its size allows, and the ways must agree: by the definition itself (all cycles, all fillings, all
 //! codewords) for tiny codes, by Gaussian elimination over the columns of matrix (1) where its rows fit 128 bits, and by plain peeling,
-//! flooding and halving for all sizes.
+//! flooding, halving and growing for all sizes.
 
 use fumizhaki::Plan;
+use std::collections::BinaryHeap;
 
 const TOP: usize = 0;
 const BOTTOM: usize = 1;
 
-/// Marked places up to which all fillings are tried, and dimension up to which all codewords are.
+/// Marked places up to which all fillings are tried and all sets of them gone through, and dimension up to which all codewords are.
 const FEW: usize = 11;
+/// Marked places up to which a rank is found anew for each of them.
+const SOME: usize = 24;
 
 /// "Bounds: n from 2 to 32, t from 1 to 2,048, n × t at most 32,768".
 fn size_fits(n: usize, t: usize) -> bool {
@@ -20,6 +23,19 @@ fn size_fits(n: usize, t: usize) -> bool {
 /// The largest number that divides t and every one of `numbers`, by trying all.
 fn greatest_divisor(t: usize, numbers: &[usize]) -> usize {
     (1..=t).rev().find(|d| t % d == 0 && numbers.iter().all(|x| x % d == 0)).unwrap()
+}
+
+/// The rank of these columns over GF(2).
+fn rank(mut columns: Vec<u128>) -> usize {
+    let mut rank = 0;
+    while let Some(pivot) = columns.pop() {
+        if pivot != 0 {
+            rank += 1;
+            let row = pivot.ilog2();
+            columns.iter_mut().filter(|column| **column >> row & 1 == 1).for_each(|column| *column ^= pivot);
+        }
+    }
+    rank
 }
 
 // ---- plans
@@ -418,7 +434,119 @@ impl Code {
         None
     }
 
+    // -- the fetch list, for all sizes
+
+    /// From each row that is not reached yet, always on over the highest marked place that leads to a new row. No other forest of as many places has
+    /// higher ones: every place that led nowhere new closes a cycle in which it is the lowest.
+    fn fetch_by_growing(&self, on_rows: &OnRows) -> Vec<usize> {
+        let (mut reached, mut closing) = (vec![false; self.rows()], vec![]);
+        for start in 0..self.rows() {
+            if reached[start] {
+                continue;
+            }
+            let (mut next, mut new) = (BinaryHeap::new(), Some(start));
+            loop {
+                if let Some(row) = new {
+                    reached[row] = true;
+                    // a place whose other row is reached is in the heap, or was taken to come here
+                    next.extend(on_rows.at(row).iter().copied().filter(|c| self.meets[*c].iter().any(|r| !reached[*r])));
+                }
+                let Some(c) = next.pop() else { break };
+                new = self.meets[c].into_iter().find(|r| !reached[*r]);
+                if new.is_none() {
+                    closing.push(c);
+                }
+            }
+        }
+        closing.sort_unstable();
+        closing
+    }
+
+    /// Whether a chain of marked places above `c` leads from one of its rows to the other.
+    fn joined_above(&self, c: usize, on_rows: &OnRows) -> bool {
+        let [from, to] = self.meets[c];
+        let mut reached = vec![false; self.rows()];
+        reached[from] = true;
+        let mut rows = vec![from];
+        while let Some(row) = rows.pop() {
+            for above in on_rows.at(row).iter().rev().take_while(|above| **above > c) {
+                for r in self.meets[*above] {
+                    if !reached[r] {
+                        reached[r] = true;
+                        rows.push(r);
+                    }
+                }
+            }
+        }
+        reached[to]
+    }
+
+    /// How many groups of joined rows there are.
+    fn groups(&self, on_rows: &OnRows) -> usize {
+        let (mut reached, mut groups) = (vec![false; self.rows()], 0);
+        for start in 0..self.rows() {
+            let mut rows = vec![start];
+            groups += usize::from(!reached[start]);
+            while let Some(row) = rows.pop() {
+                if !std::mem::replace(&mut reached[row], true) {
+                    rows.extend(on_rows.at(row).iter().flat_map(|c| self.meets[*c]).filter(|r| !reached[*r]));
+                }
+            }
+        }
+        groups
+    }
+
     // -- the answers, each in every way that its size allows
+
+    /// "List those marked places that are the lowest of some ring of marked places, rising."
+    pub fn fetch(&self, marked: &[bool]) -> Vec<usize> {
+        let marks: Vec<usize> = (0..self.places()).filter(|c| marked[*c]).collect();
+        let on_rows = OnRows::of(self, &marks);
+        let list = self.fetch_by_growing(&on_rows);
+        let mut listed = vec![false; self.places()];
+        list.iter().for_each(|c| listed[*c] = true);
+        let rest: Vec<usize> = marks.iter().copied().filter(|c| !listed[*c]).collect();
+
+        // "Taking the list's marks away must leave marks that hold no ring, and no set of fewer places does that": marks without a ring are at most as
+        // many as there are rows less groups of them
+        assert!(self.peel(&rest, &OnRows::of(self, &rest), 0, |_, _| ()).is_empty(), "the reference's fetch list leaves a cycle");
+        assert_eq!(rest.len(), self.rows() - self.groups(&on_rows), "the reference's fetch list is not as long as the groups say");
+        // some places by the definition itself: joined by higher ones or not
+        for ends in [list.first(), list.last(), rest.first(), rest.last()] {
+            let lowest = |c: &usize| self.joined_above(*c, &on_rows) == listed[*c];
+            assert!(ends.is_none_or(lowest), "the reference's fetch list is wrong in {ends:?}");
+        }
+        if marks.len() == self.places() {
+            assert_eq!(list, self.message_places, "with all marked the reference's fetch list is not the message places");
+        }
+        if self.fits_128() {
+            let e = self.eliminate(&marks);
+            assert!(e.dependent.iter().rev().map(|d| &d.0).eq(&list), "the reference's growing and its elimination disagree");
+            assert_eq!(rest.len(), e.independent.len(), "the reference's fetch list is not as long as the rank says");
+        }
+        if self.fits_128() && marks.len() <= SOME {
+            // the columns above, with its own and without
+            let columns: Vec<u128> = marks.iter().map(|c| 1 << self.meets[*c][TOP] | 1 << self.meets[*c][BOTTOM]).collect();
+            let same = |i: &usize| rank(columns[*i..].to_vec()) == rank(columns[i + 1..].to_vec());
+            assert!((0..marks.len()).filter(same).map(|i| &marks[i]).eq(&list), "the reference's fetch list is not that of the ranks");
+        }
+        if marks.len() <= FEW {
+            self.fetch_by_definition(&marks, &list);
+        }
+        list
+    }
+
+    /// Every cycle of the marks: the list has the lowest place of each, and no set of fewer places has one of each.
+    fn fetch_by_definition(&self, marks: &[usize], list: &[usize]) {
+        let cycles: Vec<Vec<usize>> = marks.iter().flat_map(|c| self.cycles_from(marks, *c)).collect();
+        let defined: Vec<usize> = marks.iter().copied().filter(|c| cycles.iter().any(|cycle| cycle[0] == *c)).collect();
+        assert_eq!(list, defined, "the reference's fetch list is not that of the definition");
+        let bits = |cycle: &Vec<usize>| (0..marks.len()).filter(|i| cycle.contains(&marks[*i])).fold(0u32, |set, i| set | 1 << i);
+        let sets: Vec<u32> = cycles.iter().map(bits).collect();
+        for fewer in (0..1u32 << marks.len()).filter(|set| (set.count_ones() as usize) < list.len()) {
+            assert!(sets.iter().any(|cycle| cycle & fewer == 0), "fewer places than {list:?} do as well: {fewer:b} of {marks:?}");
+        }
+    }
 
     pub fn agree(&self, block: &[u8], marked: &[bool]) -> Agree {
         let marks: Vec<usize> = (0..self.places()).filter(|c| marked[*c]).collect();
@@ -689,6 +817,25 @@ pub fn recover(code: Result<&Code, u8>, block: &[u8], marks: &[u8], witness: &[u
         Agree::None(rows) => Left { number: 5, count: rows.len(), written: (block.to_vec(), listed(&rows)) },
         Agree::Two(cycle) => Left { number: 6, count: cycle.len(), written: (block.to_vec(), listed(&cycle)) },
     }
+}
+
+pub fn fetch(code: Result<&Code, u8>, marks: &[u8], list: &[u8]) -> Left<Vec<u8>> {
+    let kept = |number| Left { number, count: 0, written: list.to_vec() };
+    let code = match code {
+        Ok(code) => code,
+        Err(number) => return kept(number),
+    };
+    if list.len() != code.places().div_ceil(8) {
+        return kept(3);
+    }
+    match marks_refused(code, marks) {
+        0 => (),
+        number => return kept(number),
+    }
+    let places = code.fetch(&bits(marks, code.places()));
+    let mut written = vec![0; list.len()];
+    places.iter().for_each(|c| written[c / 8] |= 1 << (c % 8));
+    Left { number: 0, count: places.len(), written }
 }
 
 pub fn encode(code: Result<&Code, u8>, message: &[u8], block: &[u8]) -> Left<Vec<u8>> {

@@ -1,5 +1,4 @@
 -- `erasure_count` meets its contract. Assumes nothing.
-use Rattle.calls.specs.Calls.{countLent}
 use Rattle.calls.specs.CallsLaws.{count-most, counted-pass, counted-stop}
 use Rattle.refusals.specs.Refusals.{checkNumber}
 use Rattle.plan.specs.declared.Count.the-variants.{Is}
@@ -9,19 +8,16 @@ use Rattle.calls.proofs.erasure_count.Statement.{statement}
 use Rattle.calls.proofs.erasure_count.Tie as tie
 
 count-ones-requires : tie.Need-count-ones-requires
-unfolding countLent
-count-ones-requires c κs = count-most _ (c .before .before .before .before .args .marks .now) (sym (c .before .before .check-call .ensures) ∙ c .enum-told .given .1)
+count-ones-requires c κs = count-most _ (c .before .before .before .before .args .marks .now) (sym (c .before .before .check-marks .ensures) ∙ c .enum-told .given .1)
 
 returns : tie.Need-returns
-unfolding countLent
 returns c =
-    let e = sym (c .before .before .before .check-call .ensures) ∙ c .before .enum-told .given .1 in
+    let e = sym (c .before .before .before .check-marks .ensures) ∙ c .before .enum-told .given .1 in
     (ap Is (c .count-ones .ensures) ∙ counted-pass _ _ e (λ i. c .before .before .before .before .shared-slice-known .given i .fits), ap checkNumber (sym e))
 
 returns-2 : tie.Need-returns-2
-unfolding countLent
 returns-2 c =
-    let e = sym (c .before .before .before .check-call .ensures) ∙ c .before .x .given .1 in
+    let e = sym (c .before .before .before .check-marks .ensures) ∙ c .before .x .given .1 in
     (counted-stop _ _ _ e, ap checkNumber (sym e))
 
 pub erasure-count-spec : {M : Type 1} → statement M

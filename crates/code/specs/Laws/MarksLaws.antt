@@ -1,22 +1,24 @@
 -- Marks as bits: the erasures that they say, setting and clearing one bit, and counting.
--- Main results: in-erasures, erasures-erased, set-mark, clear-mark, erasures-clear, markCount-split, markCount-byte, erasure-total.
+-- Main results: same-bits, same-marks, in-erasures, erasures-erased, set-mark, clear-mark, erasures-clear, bits-none, bits-more, bits-once, bits-list, markCount-split, markCount-byte,
+-- erasure-total.
 use mathlib.Core.Path.{_≡_, refl, sym, _∙_, ap, ap₂, subst}
 use mathlib.Core.Logic.{_≢_, _↔_, _⊎_, inl, inr, ⊎-elim, by-cases}
-use mathlib.Core.List.{List}
+use mathlib.Core.List.{List, [], _∷_, List·Memᴰ·not-nil, List·Memᴰ·head as head, List·Memᴰ·tail as tail}
 use Prim.Native.Nat.{ℕ, zero, suc, _+_, _-_, _*_, _/_, _%_, _^_, _≤_, _<_, max, min}
-use native.Mathlib.Nat.{mod-lt, div-eq-of-lt, div-self, add-zero, add-suc, pow-suc}
+use native.Mathlib.Nat.{mod-lt, div-eq-of-lt, div-self, zero-div, add-zero, add-suc, pow-suc}
 use native.Mathlib.Numerals.{one-add}
 use native.Mathlib.Decide.{ℕ-discrete, decLt}
 use native.Mathlib.Omega.{arith}
 use lib.Dec.{eqb}
 use lib.Bits.{bitAnd, bitOr, and-step, or-step, and-shr, or-shr}
 use lib.Count.{ones, onesIn, ones-step}
-use lib.ListN.{length, getD, set}
-use lib.Seq.{getD-set-same, getD-set-other}
+use lib.ListN.{length, getD, set, replicate}
+use lib.Seq.{getD-set-same, getD-set-other, ext-getD}
 use lib.Pow.{pow-pos, pow-lt, pow-add, shl-shr, shr-shr}
 use borrow.Author.Tests.{eq-eqb, ne-eqb, eqb-true}
-use Rattle.math.specs.Members.{_∈_, from, upTo, without, Rising}
-use Rattle.math.specs.MembersLaws.{upTo-∈, from-∈, from-append, upTo-suc, ∈-keep, keep-∈, rising-keep, rising-without, rising-ext, ∈-without, without-∈}
+use Rattle.math.specs.Members.{_∈_, from, upTo, keep, without, Rising}
+use Rattle.math.specs.MembersLaws.{by-place, ∈-upTo, upTo-∈, rising-upTo, from-∈, from-append, upTo-suc, ∈-keep, keep-∈, rising-keep, rising-without, rising-ext, ∈-without, without-∈}
+use Rattle.math.specs.Padded.{zeros-at}
 use Rattle.math.specs.Xor.{_⊕_, ⊕-bit}
 use Rattle.math.specs.Sums.{sumOver, only}
 use Rattle.math.specs.SumsLaws.{only-true, only-false, sumOver-ext, sumOver-zero, sumOver-append, length-keep-sum}
@@ -24,7 +26,7 @@ use Rattle.plan.specs.Layout.{Layout}
 use Rattle.code.specs.Places.{places}
 pub use Rattle.code.specs.Places.{places-all}
 use Rattle.code.specs.Codewords.{bitOf}
-use Rattle.code.specs.Marks.{mark, markBytes, NoSpare, erasures, markCount}
+use Rattle.code.specs.Marks.{mark, markBytes, NoSpare, erasures, BitsOf, markCount}
 use Rattle.code.specs.Laws.Basics.{rising-places}
 use Rattle.code.specs.Laws.Forest.{Erased}
 
@@ -68,6 +70,10 @@ bit-pow-other b k n =
     let e : k ≡ suc (k - suc b) + b = omega arith in
     ap (λ x. 2 ^ x / 2 ^ b % 2) e ∙ rw (pow-add 2 (suc (k - suc b)) b, shl-shr, pow-suc) (omega arith))
 
+bit-of-none : (b : ℕ) → bitOf b 0 ≡ 0
+unfolding bitOf
+bit-of-none b = rw (zero-div (2 ^ b))
+
 -- the bits of a number of w bits taken from all ones
 pub bit-not : (w b x : ℕ) → b < w → x < 2 ^ w → bitOf b (2 ^ w - 1 - x) ≡ 1 - bitOf b x
 unfolding bitOf
@@ -80,6 +86,15 @@ bit-not (suc w) (suc b) x h l =
 
 pub bit-mask : {b k : ℕ} → b < 8 → k < 8 → bitOf b (255 - 2 ^ k) ≡ 1 - bitOf b (2 ^ k)
 bit-mask {b} {k} h l = bit-not 8 b (2 ^ k) h (pow-lt l)
+
+-- numbers of k bits with the same bits are the same
+pub same-bits : (k x y : ℕ) → x < 2 ^ k → y < 2 ^ k → ((b : ℕ) → b < k → bitOf b x ≡ bitOf b y) → x ≡ y
+same-bits zero x y p q h = omega arith
+same-bits (suc k) x y p q h =
+    let m : 2 ^ suc k ≡ 2 ^ k * 2 = pow-suc 2 k in
+    let e : x / 2 ≡ y / 2 = same-bits k (x / 2) (y / 2) (omega arith) (omega arith) (λ b l. sym (bit-suc b x) ∙ h (suc b) (omega arith) ∙ bit-suc b y) in
+    let f : x % 2 ≡ y % 2 = sym (bit-zero x) ∙ h 0 (omega arith) ∙ bit-zero y in
+    omega arith
 
 -- a sum over a range that begins later
 sum-shift : (f : ℕ → ℕ) (a j k : ℕ) → sumOver (from (a + j) k) f ≡ sumOver (from j k) (λ b. f (a + b))
@@ -117,6 +132,14 @@ mark-at m i b h =
     let e : (8 * i + b) / 8 ≡ i = omega arith in
     let f : (8 * i + b) % 8 ≡ b = omega arith in
     rw (e, f)
+
+-- mark bytes with the same marks are the same
+pub same-marks : (m k : List ℕ) → length m ≡ length k → ((i : ℕ) → getD m i 0 < 256) → ((i : ℕ) → getD k i 0 < 256) →
+    ((d : ℕ) → d < 8 * length m → mark m d ≡ mark k d) → m ≡ k
+same-marks m k l a b h =
+    ext-getD 0 m k l
+    (λ i less. same-bits 8 (getD m i 0) (getD k i 0) (a i) (b i)
+    (λ j s. sym (mark-at m i j s) ∙ h (8 * i + j) (omega arith) ∙ mark-at k i j s))
 
 pub in-erasures : (L : Layout) (m : List ℕ) (c : ℕ) → (c ∈ erasures L m) ↔ ((c ∈ places L) × (mark m c ≡ 1))
 unfolding erasures
@@ -194,6 +217,54 @@ erasures-set L {m} {m'} {c} p i d = (
       (λ e. rw e (in-erasures L m' c .1 (i, p .here)))
       (λ n. ⊎-elim (λ e. absurd (n e)) (λ q. let o = in-erasures L m d .0 q in in-erasures L m' d .1 (o .0, p .others d n ∙ o .1)) k),
 )
+
+-- ---- bits that say a list
+
+pub mark-none : (k c : ℕ) → mark (replicate k 0) c ≡ 0
+unfolding mark
+mark-none k c = rw (zeros-at k (c / 8)) (bit-of-none (c % 8))
+
+pub bits-none : (k : ℕ) → BitsOf [] (replicate k 0)
+bits-none k = record {
+  bytes = λ i. rw (zeros-at k i) (omega arith);
+  exact = λ c h. (λ e. absurd (omega (arith, mark-none k c)), λ m. absurd (List·Memᴰ·not-nil m));
+}
+
+-- one more place
+pub bits-more : {l m m' : List ℕ} {c : ℕ} → BitsOf l m → length m' ≡ length m → ((i : ℕ) → getD m' i 0 < 256) → Puts m c 1 m' → BitsOf (c ∷ l) m'
+bits-more {l} {m} {m'} {c} b e bytes p = record {
+  bytes = bytes;
+  exact = λ d h. by-cases (ℕ-discrete d c)
+      (λ q. (λ _. head q, λ _. rw q (p .here)))
+      (λ n.
+      let k = b .exact d (omega arith) in
+      (λ s. tail (k .0 (sym (p .others d n) ∙ s)), λ i. p .others d n ∙ k .1 (by-place i (λ q. absurd (n q)) (λ j. j))));
+}
+
+-- the same list is said by one list of bytes
+pub bits-once : {l m k : List ℕ} → length m ≡ length k → BitsOf l m → BitsOf l k → m ≡ k
+bits-once {l} {m} {k} e a b =
+    same-marks m k e (a .bytes) (b .bytes)
+    (λ c h. let x = a .exact c h in
+    let y = b .exact c (omega arith) in
+    by-cases (ℕ-discrete (mark m c) 1)
+    (λ q. q ∙ sym (y .1 (x .0 q)))
+    (λ n. let o : mark k c ≢ 1 = λ q. n (x .1 (y .0 q)) in omega (arith, mark-bit m c, mark-bit k c)))
+
+-- the marked places among the k from a on, rising
+unfoldable pub placesOf : List ℕ → ℕ → ℕ → List ℕ
+placesOf m a k = keep (λ c. eqb (mark m c) 1) (from a k)
+
+-- the list read from its bits
+pub bits-list : {l m : List ℕ} (k : ℕ) → BitsOf l m → Rising l → ((c : ℕ) → c ∈ l → c < k) → k ≤ 8 * length m → placesOf m 0 k ≡ l
+unfolding placesOf upTo
+bits-list {l} {m} k b r inside h =
+    rising-ext (rising-keep (λ c. eqb (mark m c) 1) (rising-upTo k)) r
+    (λ c i. let o = keep-∈ (λ d. eqb (mark m d) 1) (upTo k) i in
+    let less : c < k = upTo-∈ k (o .0) in
+    b .exact c (omega arith) .0 (eqb-true (mark m c) 1 (o .1)))
+    (λ c i. let less : c < k = inside c i in
+    ∈-keep (λ d. eqb (mark m d) 1) (∈-upTo less) (eq-eqb (mark m c) 1 (b .exact c (omega arith) .1 i)))
 
 -- ---- counting
 

@@ -1,24 +1,24 @@
 -- T8, the count: the parity places are the spanning forest of all places, so they number 2t - g (Theorem 2 of 002).
 -- Main results: parity-lists, parity-count, parity-or-message, message-count, forest-length.
-use mathlib.Core.Path.{_≡_, sym, _∙_, ap}
-use mathlib.Core.Logic.{_⊎_, inl, inr, ⊎-elim, by-cases}
-use mathlib.Core.Bool.{not}
+use mathlib.Core.Path.{_≡_, sym, _∙_}
+use mathlib.Core.Logic.{_⊎_, inl, inr, by-cases}
 use mathlib.Core.List.{List}
 use Prim.Native.Nat.{ℕ, _-_, _*_, _≤_, _<_}
 use native.Mathlib.Omega.{arith}
 use lib.ListN.{length}
-use borrow.Author.Tests.{not-true}
-use Rattle.math.specs.Members.{_∈_, isIn, keep}
-use Rattle.math.specs.MembersLaws.{∈-upTo, upTo-∈, length-upTo, rising-upTo, ∈-keep, keep-∈, keep-split, rising-keep, rising-distinct, rising-ext, isIn-∈, ∈-isIn, isIn-∉, ∉-isIn}
+use Rattle.math.specs.Members.{_∈_}
+use Rattle.math.specs.MembersLaws.{∈-upTo, upTo-∈, length-upTo, rising-upTo, rising-distinct}
 use Rattle.math.specs.Pigeonhole.{distinct-length}
 use Rattle.plan.specs.Layout.{Layout, Valid, top, bottom, divisor}
 use Rattle.code.specs.Places.{places}
+use Rattle.code.specs.Cycles.{Lowest}
 use Rattle.code.specs.Components.{Connected}
 use Rattle.code.specs.Messages.{Parity, Message, Lists}
 use Rattle.code.specs.Laws.Basics.{rising-places}
 use Rattle.code.specs.Laws.Forest.{Erased, Forest, above}
 use Rattle.code.specs.Laws.WholeGraph.{divisor-le, class-lt, class-small, class-same, class-connected}
 use Rattle.code.specs.Laws.Spanning.{spanning, spanning-∈, spanning-exact, spanning-forest, spanning-connected, erased-spanning}
+use Rattle.code.specs.Laws.Closings.{closings, closings-lists, length-closings}
 use Rattle.code.specs.Laws.Sections.{length-places}
 use Rattle.code.specs.Laws.Labels.{label, label-le, label-lowest, decConnected, connected-own, connected-mono}
 use Rattle.code.specs.Laws.Roots.{roots, ∈-roots, roots-∈, distinct-roots, roots-forest}
@@ -28,10 +28,9 @@ use Rattle.code.specs.Laws.Paths.{path}
 unfoldable pub parities : Layout → List ℕ
 parities L = spanning L (places L)
 
--- the message places, rising
+-- the message places, rising: those that close a cycle of places above them
 unfoldable pub messages : Layout → List ℕ
-unfolding parities
-messages L = keep (λ c. not (isIn c (parities L))) (places L)
+messages L = closings L (places L)
 
 pub erased-places : (L : Layout) → Erased L (places L)
 erased-places L = record { rising = rising-places L; inside = λ c m. m }
@@ -47,6 +46,15 @@ forest-parities L = spanning-forest L (places L)
 pub parities-connected : (L : Layout) {r s : ℕ} → Connected L (places L) r s → Connected L (parities L) r s
 unfolding parities
 parities-connected L h = spanning-connected L h
+
+-- a list of the lowest places of cycles of all places is one of the message places
+pub lowest-messages : (L : Layout) {l : List ℕ} → Lists (λ c. (c ∈ places L) × Lowest L (places L) c) l → Lists (Message L) l
+lowest-messages L p = record {
+  rising = p .rising;
+  exact = λ c.
+      let k = p .exact c in
+      (λ m. record { inside = k .0 m .0; lowest-of-some = k .0 m .1 }, λ q. k .1 (q .inside, q .lowest-of-some));
+}
 
 module _ (L : Layout) (ok : Valid L) where
   -- a parity place is one of the spanning forest; every other place is a message place
@@ -69,16 +77,7 @@ module _ (L : Layout) (ok : Valid L) where
 
   pub message-lists : Lists (Message L) (messages L)
   unfolding messages
-  message-lists = record {
-    rising = rising-keep (λ c. not (isIn c (parities L))) (rising-places L);
-    exact = λ c. (
-      λ m. let k = keep-∈ (λ d. not (isIn d (parities L))) (places L) m in
-          let n = isIn-∉ c (parities L) (not-true (isIn c (parities L)) (k .1)) in
-          ⊎-elim (λ p. absurd (n (parity-lists .exact c .1 p))) (λ q. q) (parity-or-message c (k .0)),
-      λ p. ∈-keep (λ d. not (isIn d (parities L))) (p .inside)
-          (rw (∉-isIn (λ m. parity-lists .exact c .0 m .lowest-of-none (p .lowest-of-some)))),
-    );
-  }
+  message-lists = lowest-messages L (closings-lists L ok (erased-places L))
 
   -- a row below g is the lowest of its component, whatever the erasures
   low-root : {E : List ℕ} {r : ℕ} → Erased L E → r < divisor L → r ∈ roots L E
@@ -111,13 +110,8 @@ module _ (L : Layout) (ok : Valid L) where
   parity-count some = (parities L, parity-lists, length-parities some)
 
   pub length-messages : 0 < length (L .sections) → length (messages L) ≡ length (L .sections) * L .t - (2 * L .t - divisor L)
-  unfolding messages
-  length-messages some =
-      let e : keep (λ c. isIn c (parities L)) (places L) ≡ parities L =
-      rising-ext (rising-keep (λ c. isIn c (parities L)) (rising-places L)) (erased-parities L .rising)
-      (λ c m. isIn-∈ c (parities L) (keep-∈ (λ d. isIn d (parities L)) (places L) m .1))
-      (λ c m. ∈-keep (λ d. isIn d (parities L)) (erased-parities L .inside c m) (∈-isIn m)) in
-      omega (arith, keep-split (λ c. isIn c (parities L)) (places L), ap length e, length-parities some, length-places L ok)
+  unfolding messages parities
+  length-messages some = omega (arith, length-closings L (erased-places L), length-parities some, length-places L ok)
 
   pub message-count : 0 < length (L .sections) → (l : List ℕ) × Lists (Message L) l × (length l ≡ length (L .sections) * L .t - (2 * L .t - divisor L))
   message-count some = (messages L, message-lists, length-messages some)

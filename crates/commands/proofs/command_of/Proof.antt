@@ -1,6 +1,6 @@
 -- `command_of` meets its contract: each arm by the law of its first byte. Assumes nothing.
 use borrow.Author.Needs.{needs}
-use Rattle.commands.specs.CommandLaws.{is-new-plan, is-set-shift, is-set-symbol, is-mark-one, is-mark-run, is-recover, is-seal, is-show, is-figures, is-straight, is-powers, is-ruler}
+use Rattle.commands.specs.CommandLaws.{is-new-plan, is-set-shift, is-set-symbol, is-mark-one, is-mark-run, is-recover, is-seal, is-show, is-figures, is-straight, is-powers, is-ruler, is-fetch}
 use Rattle.commands.proofs.command_of.Statement.{statement}
 use Rattle.commands.proofs.command_of.Tie as tie
 
@@ -38,23 +38,26 @@ returns-11 : tie.Need-returns-11
 returns-11 c = is-powers _ (c .before .before .before .before .byte .ensures) (c .before .before .before .match .keys11) (c .before .before .byte6 .ensures) (c .before .pair9 .ensures) (c .pair10 .ensures)
 
 returns-12 : tie.Need-returns-12
-returns-12 c =
-    let r = c .before .match .rest in
-    is-ruler _ (c .before .before .byte .ensures)
+returns-12 c = is-ruler _ (c .before .before .byte .ensures) (c .before .match .keys12) (c .byte7 .ensures)
+
+returns-13 : tie.Need-returns-13
+returns-13 c =
+    let r = c .match .rest in
+    is-fetch _ (c .before .byte .ensures)
     (record {
-      not-01 = r .0 .0 .0 .0 .0 .0 .0 .0 .0 .0 .1;
-      not-02 = r .0 .0 .0 .0 .0 .0 .0 .0 .0 .1;
-      not-03 = r .0 .0 .0 .0 .0 .0 .0 .0 .1;
-      not-04 = r .0 .0 .0 .0 .0 .0 .0 .1;
-      not-05 = r .0 .0 .0 .0 .0 .0 .1;
-      not-06 = r .0 .0 .0 .0 .0 .1;
-      not-07 = r .0 .0 .0 .0 .1;
-      not-08 = r .0 .0 .0 .1;
-      not-09 = r .0 .0 .1;
-      not-0A = r .0 .1;
-      not-0B = r .1;
+      not-01 = r .0 .0 .0 .0 .0 .0 .0 .0 .0 .0 .0 .1;
+      not-02 = r .0 .0 .0 .0 .0 .0 .0 .0 .0 .0 .1;
+      not-03 = r .0 .0 .0 .0 .0 .0 .0 .0 .0 .1;
+      not-04 = r .0 .0 .0 .0 .0 .0 .0 .0 .1;
+      not-05 = r .0 .0 .0 .0 .0 .0 .0 .1;
+      not-06 = r .0 .0 .0 .0 .0 .0 .1;
+      not-07 = r .0 .0 .0 .0 .0 .1;
+      not-08 = r .0 .0 .0 .0 .1;
+      not-09 = r .0 .0 .0 .1;
+      not-0A = r .0 .0 .1;
+      not-0B = r .0 .1;
+      not-0C = r .1;
     })
-    (c .byte7 .ensures)
 
 pub command-of-spec : {M : Type 1} → statement M
 command-of-spec =
@@ -88,4 +91,5 @@ command-of-spec =
     returns-9
     returns-10
     returns-11
-    returns-12)
+    returns-12
+    returns-13)

@@ -53,23 +53,28 @@ unfolding sizeOf
 returns-12 c = rw (c .match .keys12)
 
 returns-13 : tie.Need-returns-13
-returns-13 c =
+unfolding sizeOf
+returns-13 c = rw (c .match .keys13)
+
+returns-14 : tie.Need-returns-14
+returns-14 c =
     let r = c .match .rest in
     no-size _
     (record {
-      not-01 = r .0 .0 .0 .0 .0 .0 .0 .0 .0 .0 .0 .1;
-      not-02 = r .0 .0 .0 .0 .0 .0 .0 .0 .0 .0 .1;
-      not-03 = r .0 .0 .0 .0 .0 .0 .0 .0 .0 .1;
-      not-04 = r .0 .0 .0 .0 .0 .0 .0 .0 .1;
-      not-05 = r .0 .0 .0 .0 .0 .0 .0 .1;
-      not-06 = r .0 .0 .0 .0 .0 .0 .1;
-      not-07 = r .0 .0 .0 .0 .0 .1;
-      not-08 = r .0 .0 .0 .0 .1;
-      not-09 = r .0 .0 .0 .1;
-      not-0A = r .0 .0 .1;
-      not-0B = r .0 .1;
+      not-01 = r .0 .0 .0 .0 .0 .0 .0 .0 .0 .0 .0 .0 .1;
+      not-02 = r .0 .0 .0 .0 .0 .0 .0 .0 .0 .0 .0 .1;
+      not-03 = r .0 .0 .0 .0 .0 .0 .0 .0 .0 .0 .1;
+      not-04 = r .0 .0 .0 .0 .0 .0 .0 .0 .0 .1;
+      not-05 = r .0 .0 .0 .0 .0 .0 .0 .0 .1;
+      not-06 = r .0 .0 .0 .0 .0 .0 .0 .1;
+      not-07 = r .0 .0 .0 .0 .0 .0 .1;
+      not-08 = r .0 .0 .0 .0 .0 .1;
+      not-09 = r .0 .0 .0 .0 .1;
+      not-0A = r .0 .0 .0 .1;
+      not-0B = r .0 .0 .1;
+      not-0C = r .0 .1;
     })
     (r .1)
 
 pub size-of-spec : {M : Type 1} → statement M
-size-of-spec = tie.close (tie.spec returns returns-2 returns-3 returns-4 returns-5 returns-6 returns-7 returns-8 returns-9 returns-10 returns-11 returns-12 returns-13)
+size-of-spec = tie.close (tie.spec returns returns-2 returns-3 returns-4 returns-5 returns-6 returns-7 returns-8 returns-9 returns-10 returns-11 returns-12 returns-13 returns-14)

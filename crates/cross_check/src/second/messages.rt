@@ -33,7 +33,7 @@ fn rename(end: usize, from: usize, to: usize, label: &mut Words) {
 }
 
 // 1 where the two rows of place c are not joined yet: they are then.
-fn visit(plan: Plan, c: usize, label: &mut Words) -> u8 {
+pub(crate) fn visit(plan: Plan, c: usize, label: &mut Words) -> u8 {
     let x = get16(&*label, top(plan, c));
     let y = get16(&*label, bottom(plan, c));
     if x == y {

@@ -2,7 +2,7 @@
 // No plan is held, so what the lent buffers hold is no matter, and it stays.
 use crate::buffers::Bytes;
 use crate::buffers::copy8;
-use crate::buffers::put8;
+use crate::buffers::get8;
 use crate::buffers::same8;
 use crate::numbers::least;
 use crate::random::fill8;
@@ -16,8 +16,43 @@ use lines::LINE;
 use turns::Turn;
 use turns::start;
 
+// The lent line is longer than the other buffers.
+type Line = [u8; 196624];
+
 // No length of a line: the turn is another one.
 const NONE: usize = 99;
+
+fn put_line(line: &mut Line, i: usize, v: u8) {
+    if i < 196624 {
+        line[i] = v;
+    }
+}
+
+fn get_line(line: &Line, i: usize) -> u8 {
+    if i < 196624 {
+        return line[i];
+    }
+    0
+}
+
+// The line holds the same bytes again and again.
+fn fill_line(held: &Bytes, line: &mut Line) {
+    let mut i: usize = 0;
+    while i < LINE {
+        put_line(&mut *line, i, get8(held, i % 32784));
+        i += 1;
+    }
+}
+
+fn same_line(a: &Line, b: &Line) -> bool {
+    let mut all = true;
+    let mut i: usize = 0;
+    while i < LINE {
+        all = all & (get_line(a, i) == get_line(b, i));
+        i += 1;
+    }
+    all
+}
 
 // The length of the line that a turn writes; 0 where it waits.
 fn line_of(turn: Turn) -> usize {
@@ -56,7 +91,7 @@ fn turn_parts(
 fn turn_library(
     block: &mut Bytes,
     marks: &mut Bytes,
-    line: &mut Bytes,
+    line: &mut Line,
     is_last: bool,
     offset: u64,
 ) -> usize {
@@ -69,14 +104,14 @@ fn turn_library(
     )
 }
 
-fn turn_second(line: &mut Bytes, is_last: bool) -> usize {
+fn turn_second(line: &mut Line, is_last: bool) -> usize {
     if !is_last {
         return 0;
     }
-    put8(&mut *line, 0, b'e');
-    put8(&mut *line, 1, b'n');
-    put8(&mut *line, 2, b'd');
-    put8(line, 3, b'\n');
+    put_line(&mut *line, 0, b'e');
+    put_line(&mut *line, 1, b'n');
+    put_line(&mut *line, 2, b'd');
+    put_line(line, 3, b'\n');
     4
 }
 
@@ -84,19 +119,16 @@ fn same_turn(is_last: bool, seed: u64) -> bool {
     let mut held = [0u8; 32784];
     let mut block = [0u8; 32784];
     let mut marks = [0u8; 32784];
-    let mut mine = [0u8; 32784];
-    let mut theirs = [0u8; 32784];
+    let mut mine = [0u8; 196624];
+    let mut theirs = [0u8; 196624];
     fill8(&mut held, 32784, seed);
     copy8(32784, &held, &mut block);
     copy8(32784, &held, &mut marks);
-    copy8(32784, &held, &mut mine);
-    copy8(32784, &held, &mut theirs);
+    fill_line(&held, &mut mine);
+    fill_line(&held, &mut theirs);
     let a = turn_second(&mut mine, is_last);
     let b = turn_library(&mut block, &mut marks, &mut theirs, is_last, seed);
-    (a == b)
-        & same8(32784, &mine, &theirs)
-        & same8(32784, &held, &block)
-        & same8(32784, &held, &marks)
+    (a == b) & same_line(&mine, &theirs) & same8(32784, &held, &block) & same8(32784, &held, &marks)
 }
 
 pub(crate) fn out_of_bytes(is_last: bool, seed: u64) -> usize {

@@ -183,7 +183,7 @@ pub(crate) fn recover(
     )
 }
 
-fn count_number(plan: Plan, lens: Lens, marks: &Bytes) -> usize {
+pub(crate) fn count_number(plan: Plan, lens: Lens, marks: &Bytes) -> usize {
     let number = refusing::of_plan(plan);
     if number != 0 {
         return number;

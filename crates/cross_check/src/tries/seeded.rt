@@ -8,6 +8,7 @@ use crate::random::pick;
 use crate::random::seeded;
 use crate::tally::Tally;
 use crate::tally::note;
+use crate::tries::fetches;
 use crate::tries::given;
 use crate::tries::jobs;
 use crate::tries::lent;
@@ -41,6 +42,13 @@ fn erasure_count(plan: Plan, seed: u64) -> usize {
     let mut marks = [0u8; 32784];
     marks_of(plan, seed, &mut marks);
     lent::count(plan, given::lens(plan), &marks)
+}
+
+fn fetching(plan: Plan, seed: u64) -> usize {
+    let mut marks = [0u8; 32784];
+    let lens = given::lens(plan);
+    marks_of(plan, seed, &mut marks);
+    fetches::fetch(plan, lens, lens.marks, &marks, seed)
 }
 
 // Any message and any block.
@@ -81,6 +89,18 @@ fn faulty_count(plan: Plan, spoilt: Plan, lens: Lens, seed: u64) -> usize {
     marks_of(plan, seed, &mut marks);
     given::spoilt_marks(spoilt, seed, &mut marks);
     lent::count(spoilt, lens, &marks)
+}
+
+// The list has the marks' length as it should be, or a fault of its own.
+fn faulty_fetching(plan: Plan, seed: u64) -> usize {
+    let mut marks = [0u8; 32784];
+    let spoilt = given::spoilt(plan, seed);
+    let right = given::lens(spoilt);
+    let lens = given::spoilt_lens(right, seed);
+    marks_of(plan, seed, &mut marks);
+    given::spoilt_marks(spoilt, seed, &mut marks);
+    let long = minus(right.marks, (pick(seed, 37, 4) == 0) as usize);
+    fetches::fetch(spoilt, lens, long, &marks, seed)
 }
 
 // A call with faults in the plan, the lengths or the marks; one in four has none.
@@ -131,7 +151,9 @@ fn one(kind: usize, most_n: usize, most_t: usize, seed: u64) -> usize {
         5 => faulty(plan, seed),
         6 => making(plan, seed),
         7 => family(seed),
-        _ => jobs::out_of_bytes(pick(seed, 36, 2) == 0, seed),
+        8 => jobs::out_of_bytes(pick(seed, 36, 2) == 0, seed),
+        9 => fetching(plan, seed),
+        _ => faulty_fetching(plan, seed),
     }
 }
 
@@ -164,7 +186,7 @@ fn row(kind: usize, most_n: usize, most_t: usize, count: u64) -> Cases {
     }
 }
 
-// Kinds: 0 recovery, 1 count, 2 encoding, 3 reading, 4 figures, 5 faults, 6 plans, 7 families, 8 jobs out of bytes. Small plans,
+// Kinds: 0 recovery, 1 count, 2 encoding, 3 reading, 4 figures, 5 faults, 6 plans, 7 families, 8 jobs out of bytes, 9 fetch lists, 10 their faults. Small plans,
 // refusals and larger plans.
 fn listed(i: usize) -> Cases {
     match i {
@@ -181,13 +203,16 @@ fn listed(i: usize) -> Cases {
         10 => row(2, 16, 100, 100),
         11 => row(3, 16, 100, 100),
         12 => row(4, 12, 60, 300),
-        _ => row(8, 0, 0, 600),
+        13 => row(8, 0, 0, 600),
+        14 => row(9, 6, 20, 1000),
+        15 => row(9, 32, 300, 60),
+        _ => row(10, 8, 12, 1200),
     }
 }
 
 pub(crate) fn all(tally: &mut Tally) {
     let mut i: usize = 0;
-    while i < 14 {
+    while i < 17 {
         let next = listed(i);
         many(next.kind, next.most_n, next.most_t, next.count, &mut *tally);
         i += 1;

@@ -3,7 +3,7 @@ use mathlib.Core.Path.{sym, _∙_}
 use mathlib.Core.Bool.{true≢false}
 use Rattle.state.proofs.Tags.{tag-makes}
 use Rattle.act.specs.Acts.{stateOf}
-use Rattle.act.specs.StateLaws.{recover-planned, seal-planned, figures-planned}
+use Rattle.act.specs.StateLaws.{recover-planned, seal-planned, figures-planned, fetch-planned}
 use Rattle.dispatch.specs.DispatchLaws.{refusal-is, shift-any, quiet-acts, told-acts}
 use borrow.Author.Needs.{needs}
 use Rattle.dispatch.proofs.dispatch.Statement.{statement}
@@ -35,6 +35,10 @@ show-requires c κs = (c .before .before .before .before .before .before .before
 tell-figures-requires : tie.Need-tell-figures-requires
 unfolding stateOf
 tell-figures-requires c κs = (c .before .before .before .before .before .before .pre .1, c .before .before .before .before .before .before .pre .0 .good (figures-planned _ (refusal-is _ (c .before .enum-told3 .given .1) (c .before .before .before .before .before .before .pre .2))))
+
+fetch-state-requires : tie.Need-fetch-state-requires
+unfolding stateOf
+fetch-state-requires c κs = let p = c .before .before .before .before .before .before .before .pre in (p .1, fetch-planned _ (refusal-is _ (c .before .before .enum-told4 .given .1) (p .2)), (_, p .0))
 
 returns : tie.Need-returns
 returns c = quiet-acts _ (c .before .before .command .given .1) (c .set-shift .ensures _ _ (c .before .before .before .before .before .before .before .pre .0))
@@ -96,8 +100,14 @@ same-length-13 c = c .before .before .tell-figures .kept .1 .0
 returns-8 : tie.Need-returns-8
 returns-8 c = told-acts _ _ (c .before .before .before .before .enum-told3 .given .1) (c .before .before .tell-figures .ensures .0 _ _ (c .before .before .before .before .before .before .before .before .before .pre .0), c .before .before .tell-figures .ensures .1)
 
+same-length-15 : tie.Need-same-length-15
+same-length-15 c = c .before .before .fetch-state .kept .1 .1 .0
+
 returns-9 : tie.Need-returns-9
-returns-9 c = absurd (true≢false (sym (tag-makes _ (c .match .keys9)) ∙ c .before .before .before .before .pre .3))
+returns-9 c = let e = c .before .before .fetch-state .ensures in told-acts _ _ (c .before .before .before .before .before .enum-told4 .given .1) (e .0 _ (c .before .before .before .before .before .before .before .before .before .before .pre .0), e .1)
+
+returns-10 : tie.Need-returns-10
+returns-10 c = absurd (true≢false (sym (tag-makes _ (c .match .keys10)) ∙ c .before .before .before .before .pre .3))
 
 pub dispatch-spec : {M : Type 1} → statement M
-dispatch-spec = tie.close (tie.spec (λ c. search needs) set-shift-requires (λ c. search needs) set-symbol-requires (λ c. search needs) mark-one-requires (λ c. search needs) mark-run-requires (λ c. search needs) recover-state-requires (λ c. search needs) seal-state-requires (λ c. search needs) show-requires (λ c. search needs) tell-figures-requires returns same-length same-length-2 returns-2 same-length-3 returns-3 same-length-4 returns-4 same-length-5 same-length-6 same-length-7 returns-5 same-length-8 same-length-9 same-length-10 returns-6 (λ c. search needs) same-length-12 returns-7 same-length-13 returns-8 returns-9)
+dispatch-spec = tie.close (tie.spec (λ c. search needs) set-shift-requires (λ c. search needs) set-symbol-requires (λ c. search needs) mark-one-requires (λ c. search needs) mark-run-requires (λ c. search needs) recover-state-requires (λ c. search needs) seal-state-requires (λ c. search needs) show-requires (λ c. search needs) tell-figures-requires (λ c. search needs) fetch-state-requires returns same-length same-length-2 returns-2 same-length-3 returns-3 same-length-4 returns-4 same-length-5 same-length-6 same-length-7 returns-5 same-length-8 same-length-9 same-length-10 returns-6 (λ c. search needs) same-length-12 returns-7 same-length-13 returns-8 (λ c. search needs) same-length-15 returns-9 returns-10)

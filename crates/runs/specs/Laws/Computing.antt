@@ -8,7 +8,7 @@ use native.Mathlib.Decide.{ℕ-discrete, decLt}
 use native.Mathlib.Omega.{arith}
 use lib.ListN.{length, getD, set, replicate, length-replicate, length-set}
 use lib.Seq.{getD-set-same, getD-set-other}
-use Rattle.slices.specs.Zeros.{zeros-at}
+use Rattle.math.specs.Padded.{zeros-at}
 use Rattle.math.specs.Gcd.{gcd, gap}
 use Rattle.math.specs.GcdLaws.{gcd-le}
 use Rattle.math.specs.Members.{from, upTo}

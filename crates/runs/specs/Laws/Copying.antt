@@ -10,7 +10,7 @@ use native.Mathlib.Decide.{ℕ-discrete}
 use native.Mathlib.Omega.{arith}
 use lib.ListN.{length, getD, take, drop, replicate, length-append, length-drop, length-replicate, drop-of-length-le, List·getD-append}
 use lib.Seq.{take-at, drop-at, take-append-le, drop-append-le, getD-append-add, take-add, take-all, length-take-le}
-use Rattle.slices.specs.Zeros.{zeros-at}
+use Rattle.math.specs.Padded.{zeros-at}
 use Rattle.bounds.specs.Bounds.{maxPlaces}
 use Rattle.plan.specs.Layout.{Layout, messageCount}
 use Rattle.code.specs.Laws.ParityCount.{messages}

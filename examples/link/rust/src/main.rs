@@ -1,5 +1,5 @@
 //! The library from Rust, with a code of 002: 12 sections of 239 symbols, shifts 5 to the j. A message is encoded, two sections are lost but for one symbol, and
-//! recovery fills them in. Then that symbol is lost as well, and last a symbol is damaged. Panics if anything is not as it should be.
+//! recovery fills them in. Then that symbol is lost as well and has to be fetched, and last a symbol is damaged. Panics if anything is not as it should be.
 use fumizhaki::{Plan, Recovery, Refusal};
 
 fn mark(marks: &mut [u8], place: usize) {
@@ -35,6 +35,7 @@ fn main() -> Result<(), Refusal> {
 
     // One symbol more: a cycle goes through both sections, and the block is left as it is.
     mark(&mut marks, 4 * plan.t);
+    block[4 * plan.t] = 0xEE;
     match plan.recover(&mut block, &marks, &mut witness)? {
         Recovery::Loose(places) => {
             assert_eq!((places.len(), usize::from(places[0])), (2 * plan.t, 4 * plan.t));
@@ -42,6 +43,17 @@ fn main() -> Result<(), Refusal> {
         }
         other => panic!("loose was expected, not {other:?}"),
     }
+    assert_eq!(block[4 * plan.t], 0xEE);
+
+    // What has to be fetched from elsewhere: with these symbols set and their marks taken away the others are recovered.
+    let mut list = vec![0; lengths.marks];
+    let count = plan.fetch(&marks, &mut list)?;
+    let fetched: Vec<usize> = (0..lengths.block).filter(|place| list[place / 8] >> (place % 8) & 1 == 1).collect();
+    assert_eq!((count, &fetched), (1, &vec![4 * plan.t]));
+    println!("fetch {count}, place {}", fetched[0]);
+    fetched.iter().for_each(|place| block[*place] = sealed[*place]);
+    marks.iter_mut().zip(&list).for_each(|(marks, list)| *marks &= !list);
+    assert_eq!(plan.recover(&mut block, &marks, &mut witness)?, Recovery::Recovered);
     assert_eq!(block, sealed);
 
     // A damaged symbol and no marks: no codeword agrees, and its top row shows it.

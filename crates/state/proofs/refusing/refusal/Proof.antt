@@ -41,7 +41,11 @@ unfolding refusalOf
 returns-8 c = refusal-by (c .before .before .before .args .planned) (c .before .before .before .args .plan) (c .before .enum-told3 .given .1) (c .no-plan3 .ensures)
 
 returns-9 : tie.Need-returns-9
-returns-9 c = λ s e f. absurd (true≢false (sym (tag-makes _ (c .match .keys9)) ∙ c .before .pre))
+unfolding refusalOf
+returns-9 c = refusal-by (c .before .before .before .args .planned) (c .before .before .before .args .plan) (c .before .enum-told4 .given .1) (c .no-plan4 .ensures)
+
+returns-10 : tie.Need-returns-10
+returns-10 c = λ s e f. absurd (true≢false (sym (tag-makes _ (c .match .keys10)) ∙ c .before .pre))
 
 pub refusal-spec : {M : Type 1} → statement M
 refusal-spec =
@@ -71,6 +75,8 @@ refusal-spec =
     (λ c κs. search needs)
     (λ c. search needs)
     (λ c κs. search needs)
+    (λ c. search needs)
+    (λ c κs. search needs)
     returns
     returns-2
     returns-3
@@ -79,4 +85,5 @@ refusal-spec =
     returns-6
     returns-7
     returns-8
-    returns-9)
+    returns-9
+    returns-10)

@@ -8,7 +8,7 @@ abbrev Inv-loop : tie.InvT-loop
 Inv-loop tally₀ i₀ tally i = Unit {0}
 
 abbrev μ-loop : tie.MeasureT-loop
-μ-loop tally₀ i₀ tally i = 14 - i
+μ-loop tally₀ i₀ tally i = 17 - i
 
 pub all-spec : {M : Type 1} → statement M
 all-spec =
