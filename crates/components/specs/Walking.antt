@@ -17,10 +17,10 @@ use Rattle.code.specs.Laws.Basics.{places-∈, ∈-places}
 use Rattle.code.specs.Laws.MarksLaws.{in-erasures, rising-erasures, mark-bit}
 use Rattle.bits.specs.Words.{Clear}
 use Rattle.tables.specs.Spots.{Stands, stands-inside, stands-top, stands-bottom}
+use Rattle.tables.specs.declared.walk.Spot.{Spot}
 use Rattle.components.specs.Parents.{Falls, Unites, Settled, Own}
 use Rattle.components.specs.Gaps.{Gap}
 use Rattle.components.specs.Walks.{Walks, Labelled, closing, walks-none, walks-skip, walks-join, walks-labelled, joins-none}
-use Rattle.plan.specs.declared.Place.{Place}
 use Rattle.plan.specs.GoodPlan.{GoodPlan}
 use Rattle.components.specs.declared.walk.Closing.{Closing}
 use Rattle.components.specs.declared.walk.Closing.the-variants.{None}
@@ -115,18 +115,19 @@ module _ {n t : ℕ} {shifts marks p : List ℕ} {c j k d j′ k′ : ℕ} {a : 
   }
 
 -- one place back, which is marked
-pub walking-join : {n t : ℕ} {shifts marks p q : List ℕ} {c j k j′ k′ : ℕ} {a : Closing} (d : Place) (b : Bool) → Walking n t shifts marks p c j k a
-    → Stands t (d .0) j′ k′ → d .0 + 1 ≡ c → mark marks (d .0) ≢ 0
-    → UnitesAt (layout n t shifts) (d .0) p q b → Walking n t shifts marks q (d .0) j′ k′ (closing a b d)
+pub walking-join : {n t : ℕ} {shifts marks p q : List ℕ} {c j k : ℕ} {a : Closing} (d : Spot) (b : Bool) → Walking n t shifts marks p c j k a
+    → Stands t (d .place .0) (d .section) (d .offset) → d .place .0 + 1 ≡ c → mark marks (d .place .0) ≢ 0
+    → UnitesAt (layout n t shifts) (d .place .0) p q b → Walking n t shifts marks q (d .place .0) (d .section) (d .offset) (closing a b d)
+unfolding layout
 walking-join {n} {t} {shifts} {marks} {p} {c} {a} d b w s e m u =
-    let h : d .0 < n * t = omega (arith, w .inside) in
-    let one : mark marks (d .0) ≡ 1 = omega (arith, m, mark-bit marks (d .0)) in
+    let h : d .place .0 < n * t = omega (arith, w .inside) in
+    let one : mark marks (d .place .0) ≡ 1 = omega (arith, m, mark-bit marks (d .place .0)) in
     record {
       good = w .good;
       bytes = w .bytes;
       stands = s;
       inside = omega arith;
-      walks = walks-join d a b (rising-erasures (layout n t shifts) marks) (erasure-layout (w .good) marks h one)
+      walks = walks-join d a b (rising-erasures (layout n t shifts) marks) s (erasure-layout (w .good) marks h one)
           (subst (λ i. Walks (layout n t shifts) (erasures (layout n t shifts) marks) p i a) (sym e) (w .walks)) u;
     }
 

@@ -19,8 +19,9 @@ use Rattle.code.specs.Places.{Meets}
 use Rattle.code.specs.Components.{Connected, here, along}
 use Rattle.code.specs.Laws.Forest.{Forest, forest-none, forest-more, above}
 use Rattle.code.specs.Laws.Labels.{label, label-connected, connected-label, label-place, label-le, label-idem, connected-more, connected-own}
+use Rattle.tables.specs.Spots.{Stands}
+use Rattle.tables.specs.declared.walk.Spot.{Spot}
 use Rattle.components.specs.Parents.{Falls, Along, Same, Unites, United, Joint, Apart}
-use Rattle.plan.specs.declared.Place.{Place}
 use Rattle.components.specs.declared.walk.Closing.{Closing}
 use Rattle.components.specs.declared.walk.Closing.the-variants.{At, None}
 
@@ -37,9 +38,9 @@ pub record Closes (L : Layout) (E : List ℕ) (c : ℕ) : Type 0 where
   pub forest : Forest L (above c E)
   pub connected : Connected L (above c E) (top L c) (bottom L c)
 
--- what an answer says when the places F of E have been passed
+-- what an answer says when the places F of E have been passed; section and offset are those of the place
 abbrev pub Closed : Layout → List ℕ → List ℕ → Closing → Type 0
-Closed L E F (At c) = Closes L E (c .0)
+Closed L E F (At s) = Closes L E (s .place .0) × Stands (L .t) (s .place .0) (s .section) (s .offset)
 Closed L E F None = Forest L F
 
 -- the places of E from c on
@@ -51,11 +52,11 @@ pub record Walks (L : Layout) (E p : List ℕ) (c : ℕ) (k : Closing) : Type 0 
   pub joins : Joins L (since c E) p
   pub closed : Closed L E (since c E) k
 
--- the answer once place c is passed, which closes a cycle or not
-abbrev pub closing : Closing → Bool → Place → Closing
-closing (At d) b c = At d
-closing None true c = At c
-closing None false c = None
+-- the answer once the place of spot s is passed, which closes a cycle or not
+abbrev pub closing : Closing → Bool → Spot → Closing
+closing (At d) b s = At d
+closing None true s = At s
+closing None false s = None
 
 -- the table is that of the labels, and the answer is right
 pub record Labelled (L : Layout) (E p : List ℕ) (k : Closing) : Type 0 where
@@ -167,7 +168,7 @@ walks-none {L} {E} {p} {c} j h =
     record { joins = subst (λ F. Joins L F p) e j; closed = subst (λ F. Forest L F) e forest-none }
 
 closed-same : (L : Layout) (E : List ℕ) {F G : List ℕ} → F ≡ G → (k : Closing) → Closed L E F k → Closed L E G k
-closed-same L E e (At c) h = h
+closed-same L E e (At s) h = h
 closed-same L E e None h = subst (λ F. Forest L F) e h
 
 pub walks-skip : {L : Layout} {E p : List ℕ} {a b : ℕ} (k : Closing) → Walks L E p b k → a ≤ b → ((d : ℕ) → d ∈ E → a ≤ d → d < b → ⊥) → Walks L E p a k
@@ -175,25 +176,29 @@ walks-skip {L} {E} {p} {a} {b} k w l h =
     let e = since-skip a b E l h in
     record { joins = subst (λ F. Joins L F p) e (w .joins); closed = closed-same L E e k (w .closed) }
 
-closed-more : {L : Layout} {E p q : List ℕ} (c : Place) (k : Closing) (b : Bool) → c .0 ∈ E → Walks L E p (c .0 + 1) k
-    → Unites p (top L (c .0)) (bottom L (c .0)) q b → Closed L E (c .0 ∷ since (c .0 + 1) E) (closing k b c)
-closed-more c (At d) b m w u = w .closed
-closed-more {L} {E} c None true m w u =
-    let e = since-above (c .0) E in
-    record {
-      marked = m;
-      forest = subst (λ F. Forest L F) e (w .closed);
-      connected = subst (λ F. Connected L F (top L (c .0)) (bottom L (c .0))) e (joint-connected (w .joins) (u .joint));
-    }
-closed-more c None false m w u = forest-more (apart-connected (w .joins) (u .joint)) (w .closed)
+closed-more : {L : Layout} {E p q : List ℕ} (s : Spot) (k : Closing) (b : Bool) → Stands (L .t) (s .place .0) (s .section) (s .offset) → s .place .0 ∈ E
+    → Walks L E p (s .place .0 + 1) k → Unites p (top L (s .place .0)) (bottom L (s .place .0)) q b
+    → Closed L E (s .place .0 ∷ since (s .place .0 + 1) E) (closing k b s)
+closed-more s (At d) b st m w u = w .closed
+closed-more {L} {E} s None true st m w u =
+    let e = since-above (s .place .0) E in (
+      record {
+        marked = m;
+        forest = subst (λ F. Forest L F) e (w .closed);
+        connected = subst (λ F. Connected L F (top L (s .place .0)) (bottom L (s .place .0))) e (joint-connected (w .joins) (u .joint));
+      },
+      st,
+    )
+closed-more s None false st m w u = forest-more (apart-connected (w .joins) (u .joint)) (w .closed)
 
-pub walks-join : {L : Layout} {E p q : List ℕ} (c : Place) (k : Closing) (b : Bool) → Rising E → c .0 ∈ E → Walks L E p (c .0 + 1) k
-    → Unites p (top L (c .0)) (bottom L (c .0)) q b → Walks L E q (c .0) (closing k b c)
-walks-join {L} {E} {q} c k b r m w u =
+pub walks-join : {L : Layout} {E p q : List ℕ} (s : Spot) (k : Closing) (b : Bool) → Rising E → Stands (L .t) (s .place .0) (s .section) (s .offset)
+    → s .place .0 ∈ E → Walks L E p (s .place .0 + 1) k → Unites p (top L (s .place .0)) (bottom L (s .place .0)) q b
+    → Walks L E q (s .place .0) (closing k b s)
+walks-join {L} {E} {q} s k b r st m w u =
     let e = sym (since-more r m) in
     record {
-      joins = subst (λ F. Joins L F q) e (joins-more (c .0) (w .joins) (u .united));
-      closed = closed-same L E e (closing k b c) (closed-more c k b m w u);
+      joins = subst (λ F. Joins L F q) e (joins-more (s .place .0) (w .joins) (u .united));
+      closed = closed-same L E e (closing k b s) (closed-more s k b st m w u);
     }
 
 pub walks-labelled : {L : Layout} {E p q : List ℕ} (k : Closing) → Walks L E p 0 k → Same p q

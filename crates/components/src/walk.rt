@@ -21,9 +21,9 @@ use tables::rows::bottom;
 use tables::rows::top;
 use tables::walk::Spot;
 
-// The highest place that closes a cycle of marked places.
+// The highest place that closes a cycle of marked places, with the section and the offset that the walk had there.
 pub enum Closing {
-    At(Place),
+    At(Spot),
     None,
 }
 
@@ -80,15 +80,15 @@ pub fn gap(marks: &[u8], c: Place) -> usize
     zeros
 }
 
-// The answer once place c is passed, which closes a cycle or not.
-fn noted(k: Closing, closes: bool, c: Place) -> Closing
-    ensures { λ r. ⌜ r ≡ closing k closes c ⌝ }
+// The answer once the spot's place is passed, which closes a cycle or not.
+fn noted(k: Closing, closes: bool, at: Spot) -> Closing
+    ensures { λ r. ⌜ r ≡ closing k closes at ⌝ }
 {
     match k {
-        Closing::At(d) => Closing::At(d),
+        Closing::At(spot) => Closing::At(spot),
         Closing::None => {
             if closes {
-                Closing::At(c)
+                Closing::At(at)
             } else {
                 Closing::None
             }
@@ -123,7 +123,7 @@ fn step(n: usize, t: usize, shifts: &[u16], marks: &[u8], parent: &mut [u16], wa
     let closes = join(n, t, shifts, parent, at);
     Walk {
         spot: at,
-        closing: noted(k, closes, at.place),
+        closing: noted(k, closes, at),
     }
 }
 

@@ -3,9 +3,8 @@
 use mathlib.Core.Path.{_≡_, refl, sym, _∙_, ap}
 use mathlib.Core.Logic.{_⊎_, inl, inr, by-cases}
 use mathlib.Core.List.{List, Memᴰ·cast}
-use Prim.Native.Nat.{ℕ, _+_, _-_, _*_, _/_, _%_, _≤_, _<_}
+use Prim.Native.Nat.{ℕ, _+_, _-_, _*_, _/_, _≤_, _<_}
 use native.Mathlib.Decide.{decLt}
-use native.Mathlib.Nat.{mod-lt, div-add-mod'}
 use native.Mathlib.Omega.{arith}
 use lib.ListN.{length, getD, replicate, length-replicate, getD-replicate}
 use Rattle.math.specs.Members.{_∈_}
@@ -22,6 +21,7 @@ use Rattle.code.specs.Laws.Paths.{∈-above, erased-above, path}
 use Rattle.code.specs.Laws.CycleLaws.{cycle-length, forest-no-cycle}
 use Rattle.code.specs.Laws.MarksLaws.{erasures-erased}
 use Rattle.tables.specs.Picture.{weight, onRow, Counted, Picture, Stuck}
+use Rattle.tables.specs.Spots.{Stands}
 use Rattle.tables.specs.Sizes.{good-∈}
 use Rattle.tables.specs.Counting.{fromPlace, in-from, from-in}
 use Rattle.tables.specs.StuckLaws.{forest-sub, twos, met-two, cycle-survives, cycle-into, top-next, bottom-next, last-next}
@@ -208,11 +208,11 @@ module _ {n t : ℕ} {shifts marks : List ℕ} {c : ℕ} (p : Closing n t shifts
   peelable b lq lp lv =
       record { good = p .good; pictured = record { E = _; u = _; picture = b .picture }; queue-long = lq; place-long = lp; value-long = lv }
 
-  pub walkable : {tally : List ℕ} → Stripped n t shifts marks c tally → Walkable n t shifts tally c (c / t) (c % t)
-  walkable s = record {
+  pub walkable : {j k : ℕ} {tally : List ℕ} → Stands t c j k → Stripped n t shifts marks c tally → Walkable n t shifts tally c j k
+  walkable st s = record {
     good = p .good;
     long = s .long;
-    stands = record { whole = sym (div-add-mod' c t); within = mod-lt c (p .good .t-min) };
+    stands = st;
     cycle = s .cycle;
     walks = s .walks;
   }

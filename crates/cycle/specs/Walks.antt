@@ -128,11 +128,13 @@ module _ {n t : ℕ} {shifts tally : List ℕ} {c j k : ℕ} (p : Coupled n t sh
     second-is : (d : ℕ) → Two n t shifts tally (top (layout n t shifts) c) c d → (place ≡ d) × Stands t d i o
     second-is d w = m .is d (at-top w)
 
-    pub second-shift : (i < length shifts) × (o < t) × (getD shifts i 0 < t)
+    pub second-stands : Stands t place i o
+    second-stands = let s = second-is (p .second) (p .couple .on-top) in subst (λ x. Stands t x i o) (sym (s .0)) (s .1)
+
+    pub second-shift : (i < length shifts) × (getD shifts i 0 < t)
     second-shift =
-        let s = second-is (p .second) (p .couple .on-top) .1 in
-        let l : i < n = stands-inside s n (p .couple .on-top .other-inside) in
-        (omega (arith, p .good .long), s .within, p .good .below i l)
+        let l : i < n = stands-inside (second-is (p .second) (p .couple .on-top) .1) n (p .couple .on-top .other-inside) in
+        (omega (arith, p .good .long), p .good .below i l)
 
     module _ {b : ℕ} (eb : b ≡ bottomRow t (getD shifts i 0) o) where
       at-bottom : {d e : ℕ} → Couple n t shifts tally c d e → Two n t shifts tally b place e
@@ -141,15 +143,7 @@ module _ {n t : ℕ} {shifts tally : List ℕ} {c j k : ℕ} (p : Coupled n t sh
           subst (λ x. Two n t shifts tally b x e) (sym (s .0)) (subst (λ r. Two n t shifts tally r d e) (stands-bottom (s .1) n shifts ∙ sym eb) (q .on-bottom))
 
       pub couple-bottom : Mating n t shifts tally b place i o
-      couple-bottom =
-          let s = second-is (p .second) (p .couple .on-top) in
-          record {
-            good = p .good;
-            long = p .long;
-            stands = subst (λ x. Stands t x i o) (sym (s .0)) (s .1);
-            other = p .third;
-            two = at-bottom (p .couple);
-          }
+      couple-bottom = record { good = p .good; long = p .long; stands = second-stands; other = p .third; two = at-bottom (p .couple) }
 
       pub paired : (w w₁ w' : List ℕ) (z : ℕ) {place' i' o' : ℕ} → Mate n t shifts tally b place place' i' o' → w₁ ≡ set w z c → w' ≡ set w₁ (z + 1) place
           → Paired n t shifts tally c w w' z place' i' o'

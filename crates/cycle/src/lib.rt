@@ -3,6 +3,7 @@
 ghost use mathlib.Core.Path.{_≡_};
 ghost use Prim.Native.Nat.{_*_};
 ghost use lib.ListN.{length};
+ghost use Rattle.tables.specs.Spots.{Stands};
 ghost use Rattle.cycle.specs.Shows.{Closing, Room, Begun, Stripped, Showing};
 use crate::walk::walk;
 use peel::peel;
@@ -61,41 +62,35 @@ fn strip(
     );
 }
 
-// Writes the cycle whose lowest place is c, the highest that closes one, and zeros after it; gives its length. Before that the witness list is the queue.
+// Writes the cycle whose lowest place is the spot's, the highest that closes one, and zeros after it; gives its length. Before that the witness list is the queue.
 pub fn show(
     n: usize,
     t: usize,
     shifts: &[u16],
     marks: &[u8],
-    c: Place,
+    spot: Spot,
     sum: &mut [u8],
     tally: &mut [u16],
     place: &mut [u16],
     value: &mut [u8],
     witness: &mut [u16],
 ) -> usize
-    requires { ⌜ Closing n t (now shifts) (now marks) (c .0) ⌝ }
+    requires { ⌜ Closing n t (now shifts) (now marks) (spot .place .0) × Stands t (spot .place .0) (spot .section) (spot .offset) ⌝ }
     requires { ⌜ Room t (now sum) (now tally) (now place) (now value) ⌝ }
     requires { ⌜ length (now witness) ≡ 2 * t ⌝ }
-    ensures { λ r. ⌜ Showing n t (now (shifts .entry)) (now (marks .entry)) (c .0) (now (witness .exit)) r ⌝ }
+    ensures { λ r. ⌜ Showing n t (now (shifts .entry)) (now (marks .entry)) (spot .place .0) (now (witness .exit)) r ⌝ }
 {
     strip(
         n,
         t,
         shifts,
         marks,
-        c,
+        spot.place,
         &mut sum[..],
         &mut tally[..],
         &mut witness[..],
         &mut place[..],
         &mut value[..],
     );
-    let first = c.0 as usize;
-    let spot = Spot {
-        place: c,
-        section: first / t,
-        offset: first % t,
-    };
     walk(n, t, shifts, &tally[..], spot, &mut witness[..])
 }

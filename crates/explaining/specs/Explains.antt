@@ -6,7 +6,6 @@ use mathlib.Core.List.{List}
 use Prim.Native.Nat.{ℕ, _*_, _<_}
 use lib.ListN.{length, getD}
 use Rattle.plan.specs.Layout.{Layout, Valid, layout}
-use Rattle.plan.specs.declared.Place.{Place}
 use Rattle.plan.specs.GoodPlan.{plan-valid}
 use Rattle.math.specs.Members.{_∈_}
 use Rattle.math.specs.Sums.{xorOver}
@@ -18,7 +17,9 @@ use Rattle.code.specs.Laws.Balance.{classSum, classSum-component, classSum-ext,
 use Rattle.code.specs.Laws.Labels.{label, componentOf}
 use Rattle.code.specs.Laws.MarksLaws.{erasures-erased}
 use Rattle.tables.specs.Scan as Scan
-use Rattle.components.specs.Walks.{Closes, Closed, Labelled, labelled-in}
+use Rattle.tables.specs.Spots.{Stands}
+use Rattle.tables.specs.declared.walk.Spot.{Spot}
+use Rattle.components.specs.Walks.{Closed, Labelled, labelled-in}
 use Rattle.components.specs.Shows.{Lent, Shows, Unbalanced, crossed-inconsistent, balanced-imbalance}
 use Rattle.components.specs.declared.walk.Closing.{Closing}
 use Rattle.components.specs.declared.walk.Closing.the-variants.{At}
@@ -77,10 +78,7 @@ module _ (L : Layout) (ok : Valid L) {E : List ℕ} (er : Erased L E) {parent su
         (balanced-imbalance L E (at v) (λ q. sym (class-same L ok E v x off q) ∙ shows .says L E x refl (labelled .labels) sums .0 q)));
   }
 
--- what the closing place says, by cases
-pub closed-at : (L : Layout) (E F : List ℕ) {k : Closing} {c : Place} → k ≡ At c → Closed L E F k → Closes L E (c .0)
-closed-at L E F e h = subst (λ i. Closed L E F i) e h
-
+-- without a closing place there is a forest
 pub closed-none : (L : Layout) (E F : List ℕ) {k : Closing} → k ≡ closing.None → Closed L E F k → Forest L F
 closed-none L E F e h = subst (λ i. Closed L E F i) e h
 
@@ -89,15 +87,23 @@ pub loosens-forest : {L : Layout} {E : List ℕ} {r : Recovery} {w' : List ℕ} 
 loosens-forest f = record { decides = λ v a none. absurd (none f (a .0) (a .1)) }
 
 module _ {n t : ℕ} {shifts marks : List ℕ} (m : Scan.Lent n t shifts marks) where
-  pub marked-closing : {c : ℕ} → Closes (layout n t shifts) (erasures (layout n t shifts) marks) c → cycle.Closing n t shifts marks c
-  marked-closing h = record {
-    good = m .good;
-    marks-long = m .marks-long;
-    no-spare = m .no-spare;
-    member = h .marked;
-    forest = h .forest;
-    connected = h .connected;
-  }
+  -- the closing place, with its section and offset
+  pub closed-at : {k : Closing} {s : Spot} → k ≡ At s → Closed (layout n t shifts) (erasures (layout n t shifts) marks) (erasures (layout n t shifts) marks) k
+      → cycle.Closing n t shifts marks (s .place .0) × Stands t (s .place .0) (s .section) (s .offset)
+  unfolding layout
+  closed-at {s = s} e h =
+      let E = erasures (layout n t shifts) marks in
+      let at : Closed (layout n t shifts) E E (At s) = subst (λ k. Closed (layout n t shifts) E E k) e h in (
+        record {
+          good = m .good;
+          marks-long = m .marks-long;
+          no-spare = m .no-spare;
+          member = at .0 .marked;
+          forest = at .0 .forest;
+          connected = at .0 .connected;
+        },
+        at .1,
+      )
 
   pub loosens-shown : {c z : ℕ} {w' : List ℕ} → cycle.Showing n t shifts marks c w' z
       → Loosens (layout n t shifts) (erasures (layout n t shifts) marks) (Loose z) w'

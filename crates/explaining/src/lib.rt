@@ -69,8 +69,8 @@ fn loose(
     requires { ⌜ Room t (now sum) (now tally) (now place) (now value) × (length (now witness) ≡ 2 * t) ⌝ }
     ensures { λ r. ⌜ Loosens (layout n t (now (shifts .entry))) (erasures (layout n t (now (shifts .entry))) (now (marks .entry))) r (now (witness .exit)) ⌝ }
 {
-    let Closing::At(c) = closing else {
+    let Closing::At(spot) = closing else {
         return Recovery::Loose(0);
     };
-    Recovery::Loose(show(n, t, shifts, marks, c, sum, tally, place, value, witness))
+    Recovery::Loose(show(n, t, shifts, marks, spot, sum, tally, place, value, witness))
 }

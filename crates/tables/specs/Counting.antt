@@ -108,16 +108,16 @@ pub record Due (n t : ℕ) (shifts : List ℕ) (c e : ℕ) (tally : List ℕ) : 
 pub record Notes (n t : ℕ) (shifts : List ℕ) (c e : ℕ) (tally tally' : List ℕ) : Type 0 where
   pub notes : (E : List ℕ) → Erased (layout n t shifts) E → All E c e → Seen n t shifts E c tally → Seen n t shifts E e tally'
 
--- what noting the place at section j and offset k needs; p is the section's shift
-pub record Ready (t p j k : ℕ) (tally : List ℕ) : Type 0 where
-  pub within : k < t
+-- what noting place c, symbol k of section j, needs; p is the section's shift
+pub record Ready (t p c j k : ℕ) (tally : List ℕ) : Type 0 where
+  pub stands : Stands t c j k
   pub shift : p < t
   pub t-max : t ≤ maxT
   pub section : j < maxN
   pub long : length tally ≡ 2 * t
   pub room : (r : ℕ) → r < 2 * t → getD tally r 0 + (tallyUnit + maxN) ≤ 65536
 
-module _ {t p j k : ℕ} {tally : List ℕ} (R : Ready t p j k tally) where
+module _ {t p c j k : ℕ} {tally : List ℕ} (R : Ready t p c j k tally) where
   bottom-small : bottomRow t p k < 2 * t
   unfolding bottomRow
   bottom-small = let h : 0 < t = omega arith in omega (arith, mod-lt (k + t - p) h)
@@ -229,12 +229,12 @@ module _ {n t : ℕ} {shifts : List ℕ} {c e : ℕ} {tally : List ℕ} (D : Due
       let m : e - 1 ∈ D .E = D .all (e - 1) (omega arith) (omega arith) in
       omega (arith, good-∈ (D .good) (D .erased .inside (e - 1) m))
 
-  pub due-ready : {j k : ℕ} → c < e → Stands t c j k → Ready t (getD shifts j 0) j k tally
+  pub due-ready : {j k : ℕ} → c < e → Stands t c j k → Ready t (getD shifts j 0) c j k tally
   unfolding layout
   due-ready {j} h st =
       let i : j < n = stands-inside st n (omega (arith, due-inside h)) in
       record {
-        within = st .within;
+        stands = st;
         shift = D .good .below j i;
         t-max = D .good .t-max;
         section = omega (arith, D .good .n-max);
@@ -243,8 +243,8 @@ module _ {n t : ℕ} {shifts : List ℕ} {c e : ℕ} {tally : List ℕ} (D : Due
       }
 
   -- the same at the section that a scan has reached
-  pub due-here : {j begin end p : ℕ} → c < e → Reached n t shifts c j begin end p → c < end → Ready t p j (c - begin) tally
-  due-here {j} {begin} h R l = subst (λ z. Ready t z j (c - begin) tally) (sym (R .shift)) (due-ready h (reached-stands R l))
+  pub due-here : {j begin end p : ℕ} → c < e → Reached n t shifts c j begin end p → c < end → Ready t p c j (c - begin) tally
+  due-here {j} {begin} h R l = subst (λ z. Ready t z c j (c - begin) tally) (sym (R .shift)) (due-ready h (reached-stands R l))
 
 -- a place is noted
 pub noted-notes : {n t : ℕ} {shifts : List ℕ} {c j k : ℕ} {tally tally' : List ℕ} → GoodPlan n t shifts → Stands t c j k

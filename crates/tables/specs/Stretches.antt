@@ -61,7 +61,7 @@ pub record Run (t p j k m : ℕ) (tally tally' : List ℕ) : Type 0 where
   pub swept : Swept (added (tallyUnit + j)) k (bottomRow t p k) m tally tally'
 
 -- what the sweep needs, at rows h and b and weight w
-module _ {t p j k m : ℕ} {tally : List ℕ} (E : Ready t p j k tally) (X : Stretch t p k m) where
+module _ {t p c j k m : ℕ} {tally : List ℕ} (E : Ready t p c j k tally) (X : Stretch t p k m) where
   pub run-apart : {h b l : ℕ} → 0 < m → h ≡ k → b ≡ bottomRow t p k → l ≡ 2 * t → Apart h b m l
   run-apart g eh eb el = let A = stretch-apart X g in record { order = omega (arith, A .order); end = omega (arith, A .end) }
 
@@ -80,7 +80,7 @@ record Done (n t : ℕ) (shifts : List ℕ) (c p j k i : ℕ) (tally : List ℕ)
 
 module _ {n t : ℕ} {shifts : List ℕ} {c j begin end p m : ℕ} {tally : List ℕ} (D : Due n t shifts c (c + m) tally)
     (R : Reached n t shifts c j begin end p) (X : Stretch t p (c - begin) m) (some : 0 < m) where
-  pub stretch-ready : Ready t p j (c - begin) tally
+  pub stretch-ready : Ready t p c j (c - begin) tally
   stretch-ready = due-here D (omega arith) R (omega (arith, R .ends, R .passed, X .within))
 
   k : ℕ

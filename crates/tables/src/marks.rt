@@ -23,7 +23,7 @@ use plan::Place;
 
 // Notes the place of the spot; p is the shift of its section.
 fn note(t: usize, p: usize, spot: Spot, tally: &mut [u16])
-    requires { ⌜ Ready t p (spot .section) (spot .offset) (now tally) ⌝ }
+    requires { ⌜ Ready t p (spot .place .0) (spot .section) (spot .offset) (now tally) ⌝ }
     ensures { λ _. ⌜ Noted t p (spot .section) (spot .offset) (now (tally .entry)) (now (tally .exit)) ⌝ }
 {
     let w = weight(spot.section);

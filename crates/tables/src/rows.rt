@@ -6,6 +6,7 @@ ghost use Rattle.bounds.specs.Bounds.{maxN, maxT};
 ghost use Rattle.plan.specs.Layout.{bottomRow};
 ghost use Rattle.tables.specs.Picture.{tallyUnit};
 ghost use Rattle.tables.specs.Beside.{Beside};
+ghost use Rattle.tables.specs.Spots.{Stands};
 use crate::walk::Spot;
 use plan::Row;
 
@@ -19,9 +20,9 @@ pub fn top(spot: Spot) -> Row
     Row(spot.offset as u16)
 }
 
-// p is the shift of the spot's section.
+// p is the shift of the spot's section. Every walk asks this of each place that it stands at, so here section and offset have to be those of the place.
 pub fn bottom(spot: Spot, t: usize, p: usize) -> Row
-    requires { ⌜ (spot .offset < t) × (p < t) × (t ≤ maxT) ⌝ }
+    requires { ⌜ Stands t (spot .place .0) (spot .section) (spot .offset) × (p < t) × (t ≤ maxT) ⌝ }
     ensures { λ r. ⌜ r .0 ≡ bottomRow t p (spot .offset) ⌝ }
 {
     if p <= spot.offset {

@@ -38,7 +38,7 @@ fn sweep(tally: &mut [u16], high: Row, low: Row, m: usize, w: u16)
 
 // Notes the m places from the spot on; p is the shift of their section.
 pub(crate) fn note_run(t: usize, p: usize, m: usize, spot: Spot, tally: &mut [u16])
-    requires { ⌜ Ready t p (spot .section) (spot .offset) (now tally) ⌝ }
+    requires { ⌜ Ready t p (spot .place .0) (spot .section) (spot .offset) (now tally) ⌝ }
     requires { ⌜ Stretch t p (spot .offset) m × (0 < m) ⌝ }
     ensures { λ _. ⌜ Run t p (spot .section) (spot .offset) m (now (tally .entry)) (now (tally .exit)) ⌝ }
 {

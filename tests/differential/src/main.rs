@@ -49,6 +49,26 @@ const EACH: usize = 300;
 const EACH_SIZE: usize = 100;
 const IN_ALL: usize = 200_000;
 
+/// n, t and size of plans at the bounds.
+const BOUNDS: [(usize, usize, usize); 8] = [(2, 1, 0), (3, 1, 0), (2, 2, 0), (32, 1, 1), (2, 2_048, 3), (16, 2_048, 4), (32, 1_024, 4), (32, 1_023, 4)];
+
+/// Where the lowest place of a shown ring lies, by n, t and the place: each is met as often as an outcome. It is never in the last section: the place after it
+/// in the ring has its offset, in a section further on.
+const RINGS: [(&str, fn(usize, usize, usize) -> bool); 5] = [
+    ("section 0, offset 0", |n, t, c| n > 2 && t > 1 && c == 0),
+    ("section 0, offset t - 1", |n, t, c| n > 2 && t > 1 && c == t - 1),
+    ("section n - 2, offset 0", |n, t, c| n > 2 && t > 1 && c == (n - 2) * t),
+    ("section n - 2, offset t - 1", |n, t, c| n > 2 && t > 1 && c == (n - 2) * t + t - 1),
+    ("t of 1", |_, t, _| t == 1),
+];
+
+/// A plan with equal shifts, 0 or as large as they can be, or with shifts that rise by one.
+fn at_bounds(n: usize, t: usize, kind: usize) -> Plan {
+    let mut plan = Plan { n, t, shifts: [u16::MAX; 32] };
+    (0..n).for_each(|j| plan.shifts[j] = [0, t - 1, j % t][kind] as u16);
+    plan
+}
+
 /// A buffer with memory before and after it that a call must leave alone.
 #[derive(Clone, PartialEq, Debug)]
 struct Lent<T>(Vec<T>);
@@ -73,6 +93,7 @@ fn show(plan: &Plan) -> String {
 struct Run {
     rng: Prng,
     cases: BTreeMap<(&'static str, u8), [usize; 6]>,
+    rings: [usize; RINGS.len()],
     mismatches: usize,
 }
 
@@ -181,6 +202,10 @@ impl Run {
 
     fn recover(&mut self, plan: &Plan, code: Result<&Code, u8>, size: usize, block: &[u8], marks: &[u8], witness: &[u16]) {
         let Left { number, count, written } = reference::recover(code, block, marks, witness);
+        if number == 6 {
+            let first = usize::from(written.1[0]);
+            RINGS.iter().zip(&mut self.rings).for_each(|((_, here), met)| *met += usize::from(here(plan.n, plan.t, first)));
+        }
         let edge = self.rng.next();
         let lend = |block: &[u8], witness: &[u16]| (Lent::of(block, edge as u8), Lent::of(marks, edge as u8), Lent::of(witness, edge as u16));
         let wanted_after = lend(&written.0, &written.1);
@@ -321,10 +346,9 @@ impl Run {
 
     /// No marks, all marks, and all but the lowest or the highest, at the bounds of n and t, with equal shifts and with others.
     fn fetch_at_bounds(&mut self) {
-        for (n, t, size) in [(2, 1, 0), (3, 1, 0), (2, 2, 0), (32, 1, 1), (2, 2_048, 3), (16, 2_048, 4), (32, 1_024, 4), (32, 1_023, 4)] {
+        for (n, t, size) in BOUNDS {
             for kind in 0..3 {
-                let mut plan = Plan { n, t, shifts: [u16::MAX; 32] };
-                (0..n).for_each(|j| plan.shifts[j] = [0, t - 1, j % t][kind] as u16);
+                let plan = at_bounds(n, t, kind);
                 let code = Code::of(&plan);
                 let mut marked = vec![vec![false; n * t], vec![true; n * t], vec![true; n * t], vec![true; n * t]];
                 marked[2][0] = false;
@@ -337,6 +361,25 @@ impl Run {
                 // a ring of two is in every two sections of equal shifts, at each symbol
                 let equal = (0..(n - 1) * t).collect::<Vec<_>>();
                 assert!(kind == 2 || code.fetch(&vec![true; n * t]) == equal, "the reference's fetch list with equal shifts");
+            }
+        }
+    }
+
+    /// Rings that begin at the first and the last offset of the first section and of the last but one, at the bounds of n and t: of two places where shifts
+    /// are equal, of two whole sections elsewhere.
+    fn rings_at_bounds(&mut self) {
+        for (n, t, size) in BOUNDS {
+            for (kind, j, k) in (0..3).flat_map(|kind| [(kind, 0, 0), (kind, 0, t - 1), (kind, n - 2, 0), (kind, n - 2, t - 1)]) {
+                let plan = at_bounds(n, t, kind);
+                let code = Code::of(&plan);
+                let offsets = if kind < 2 { k..k + 1 } else { 0..t };
+                let first = j * t + offsets.start;
+                let mut marked = vec![false; n * t];
+                offsets.for_each(|k| [j, j + 1].iter().for_each(|j| marked[j * t + k] = true));
+                let (block, marks, witness) = (vec![0; n * t], cases::to_bytes(&marked), self.rng.words(2 * t));
+                let shown = reference::recover(Ok(&code), &block, &marks, &witness);
+                assert!(shown.number == 6 && usize::from(shown.written.1[0]) == first, "the reference's ring does not begin at {first}");
+                self.recover(&plan, Ok(&code), size, &block, &marks, &witness);
             }
         }
     }
@@ -395,6 +438,7 @@ impl Run {
             self.exhaust(n, t);
         }
         self.fetch_at_bounds();
+        self.rings_at_bounds();
         for (size, plans, turns) in [(0, 4_000, 12), (1, 4_000, 15), (2, 900, 12), (3, 300, 12), (4, 240, 12)] {
             for _ in 0..plans {
                 self.accepted(size, turns);
@@ -429,6 +473,11 @@ impl Run {
                 line(entry, &number.to_string(), c.map(|x| x.to_string()), &format!("{sum}{}", if few { " TOO FEW" } else { "" }));
             }
         }
+        for ((begins, _), met) in RINGS.iter().zip(self.rings) {
+            let few = met < EACH;
+            enough &= !few;
+            println!("rings from {begins:<28} {met:>8}{}", if few { " TOO FEW" } else { "" });
+        }
         enough &= total >= IN_ALL;
         println!("{total} cases, {} mismatches", self.mismatches);
         enough && self.mismatches == 0
@@ -439,7 +488,7 @@ fn main() {
     let seed = std::env::args().nth(1).map_or(SEED, |word| word.parse().expect("the seed is a number"));
     println!("differential tests, seed {seed}");
     let start = std::time::Instant::now();
-    let mut run = Run { rng: Prng::of(seed), cases: BTreeMap::new(), mismatches: 0 };
+    let mut run = Run { rng: Prng::of(seed), cases: BTreeMap::new(), rings: [0; RINGS.len()], mismatches: 0 };
     // the jobs are tried beside the cases
     let jobs = std::thread::spawn(move || desk::run(seed));
     run.all();

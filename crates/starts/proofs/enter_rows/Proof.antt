@@ -4,6 +4,7 @@ use mathlib.Core.Logic.{inl, inr}
 use native.Mathlib.Omega.{arith}
 use borrow.Author.Needs.{needs}
 use Rattle.tables.specs.Picture.{counts}
+use Rattle.tables.specs.Spots.{reached-stands}
 use Rattle.tables.specs.Scan.{marked-inside}
 use Rattle.starts.specs.Starts.{spot-rows, starting-long, top-room, bottom-room, starting-more}
 use Rattle.starts.proofs.enter_rows.Statement.{statement}
@@ -20,7 +21,7 @@ top-requires c κs = omega (arith, c .before .before .reach .ensures .0 .passed,
 
 bottom-requires : tie.Need-bottom-requires
 bottom-requires c κs = (
-  omega (arith, c .before .before .before .reach .ensures .0 .passed, c .before .before .before .reach .ensures .0 .ends, c .before .before .before .reach .ensures .1),
+  reached-stands (c .before .before .before .reach .ensures .0) (c .before .before .before .reach .ensures .1),
   omega (arith, c .before .before .before .reach .ensures .0 .shift, c .before .before .before .before .before .before .before .before .before .pre .0 .0 .startable .lent .good .below _ (c .before .before .before .reach .ensures .0 .inside)),
   c .before .before .before .before .before .before .before .before .before .pre .0 .0 .startable .lent .good .t-max,
 )

@@ -17,7 +17,7 @@ cast-bottom : tie.Need-cast-bottom
 cast-bottom c = omega (arith, c .shared-slice-known2 .given (c .before .before .before .before .before .args .spot .section))
 
 bottom-requires : tie.Need-bottom-requires
-bottom-requires c κs = let r = joinable (c .before .before .before .before .before .pre .0) (c .before .before .before .before .before .pre .1) in (r .offset, r .shift, r .few)
+bottom-requires c κs = let r = joinable (c .before .before .before .before .before .pre .0) (c .before .before .before .before .before .pre .1) in (c .before .before .before .before .before .pre .1 .stands, r .shift, r .few)
 
 unite-requires : tie.Need-unite-requires
 unite-requires c κs = let r = joinable (c .before .before .before .before .before .before .pre .0) (c .before .before .before .before .before .before .pre .1) in (c .before .before .before .before .before .before .pre .1 .falls, omega arith, omega arith)

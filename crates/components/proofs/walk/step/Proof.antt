@@ -13,7 +13,7 @@ join-requires : tie.Need-join-requires
 join-requires c κs = (c .before .before .before .before .before .before .before .pre .0 .good, walking-joinable (c .before .before .before .before .before .before .before .pre .0) (c .before .before .before .back .ensures .0) (c .before .before .before .back .ensures .1))
 
 returns-2 : tie.Need-returns-2
-returns-2 c = (rw (c .noted .ensures) (walking-join (c .before .before .before .before .before .before .before .back .result .place) (c .before .before .before .join .result) (c .before .before .before .before .before .before .before .before .before .before .before .pre .0) (c .before .before .before .before .before .before .before .back .ensures .0) (c .before .before .before .before .before .before .before .back .ensures .1) (search needs) (c .before .before .before .join .ensures)), search needs)
+returns-2 c = (rw (c .noted .ensures) (walking-join (c .before .before .before .before .before .before .before .back .result) (c .before .before .before .join .result) (c .before .before .before .before .before .before .before .before .before .before .before .pre .0) (c .before .before .before .before .before .before .before .back .ensures .0) (c .before .before .before .before .before .before .before .back .ensures .1) (search needs) (c .before .before .before .join .ensures)), search needs)
 
 pub step-spec : {M : Type 1} → statement M
 step-spec =

@@ -1,7 +1,7 @@
 -- The top row gives the second place, and its bottom row the third.
 use borrow.Author.Needs.{needs}
 use native.Mathlib.Omega.{arith}
-use Rattle.cycle.specs.Walks.{couple-top, couple-bottom, second-shift, paired}
+use Rattle.cycle.specs.Walks.{couple-top, couple-bottom, second-stands, second-shift, paired}
 use Rattle.cycle.proofs.walk.pair.Statement.{statement}
 use Rattle.cycle.proofs.walk.pair.Tie as tie
 
@@ -15,13 +15,13 @@ shared-slice-read-p : tie.Need-shared-slice-read-p
 shared-slice-read-p c = second-shift (c .before .before .before .before .before .before .pre .0) (c .before .before .top .ensures) (c .before .mate .ensures) .0
 
 cast-p : tie.Need-cast-p
-cast-p c = omega (arith, second-shift (c .before .before .before .before .before .before .pre .0) (c .before .before .top .ensures) (c .before .mate .ensures) .2, c .before .before .before .before .before .before .pre .0 .good .t-max)
+cast-p c = omega (arith, second-shift (c .before .before .before .before .before .before .pre .0) (c .before .before .top .ensures) (c .before .mate .ensures) .1, c .before .before .before .before .before .before .pre .0 .good .t-max)
 
 put-place-requires-2 : tie.Need-put-place-requires-2
 put-place-requires-2 c κs = omega (arith, c .before .before .before .before .before .before .before .before .before .before .before .before .before .pre .1, c .before .before .before .put-place .kept .0)
 
 bottom-requires : tie.Need-bottom-requires
-bottom-requires c κs = let s = second-shift (c .before .before .before .before .before .before .before .before .before .before .before .before .before .before .before .before .pre .0) (c .before .before .before .before .before .before .before .before .before .before .before .before .top .ensures) (c .before .before .before .before .before .before .before .before .before .before .before .mate .ensures) in (s .1, s .2, c .before .before .before .before .before .before .before .before .before .before .before .before .before .before .before .before .pre .0 .good .t-max)
+bottom-requires c κs = (second-stands (c .before .before .before .before .before .before .before .before .before .before .before .before .before .before .before .before .pre .0) (c .before .before .before .before .before .before .before .before .before .before .before .before .top .ensures) (c .before .before .before .before .before .before .before .before .before .before .before .mate .ensures), second-shift (c .before .before .before .before .before .before .before .before .before .before .before .before .before .before .before .before .pre .0) (c .before .before .before .before .before .before .before .before .before .before .before .before .top .ensures) (c .before .before .before .before .before .before .before .before .before .before .before .mate .ensures) .1, c .before .before .before .before .before .before .before .before .before .before .before .before .before .before .before .before .pre .0 .good .t-max)
 
 mate-requires-2 : tie.Need-mate-requires-2
 mate-requires-2 c κs = couple-bottom (c .before .before .before .before .before .before .before .before .before .before .before .before .before .before .before .before .before .pre .0) (c .before .before .before .before .before .before .before .before .before .before .before .before .before .top .ensures) (c .before .before .before .before .before .before .before .before .before .before .before .before .mate .ensures) (c .bottom .ensures)
