@@ -80,12 +80,13 @@ pub fn show(
     requires { ⌜ length (now witness) ≡ 2 * t ⌝ }
     ensures { λ r. ⌜ Showing n t (now (shifts .entry)) (now (marks .entry)) (spot .place .0) (now (witness .exit)) r ⌝ }
 {
+    let c = spot.place;
     strip(
         n,
         t,
         shifts,
         marks,
-        spot.place,
+        c,
         &mut sum[..],
         &mut tally[..],
         &mut witness[..],

@@ -15,7 +15,7 @@ loop-holds : tie.Need-loop-holds Inv-loop μ-loop
 loop-holds c = goes-start _ (c .pre .0) (c .pre .1)
 
 sub-section : tie.Need-sub-section Inv-loop μ-loop
-sub-section c = goes-pos (c .before .loop .inv) (c .loop-test .taken)
+sub-section c = omega (arith, goes-pos (c .before .loop .inv) (c .loop-test .taken))
 
 loop-again : tie.Need-loop-again Inv-loop μ-loop
 loop-again c = goes-more (c .before .loop .inv) (c .loop-test .taken)
