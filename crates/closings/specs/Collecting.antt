@@ -21,7 +21,7 @@ use Rattle.bits.specs.MarkedLaws.{marked-puts}
 use Rattle.tables.specs.Spots.{Stands}
 use Rattle.components.specs.Parents.{Own}
 use Rattle.components.specs.Gaps.{Gap}
-use Rattle.components.specs.Walks.{Joins, since, since-all, since-none, since-skip, since-above, since-more, joins-none, joins-more, joint-connected, apart-connected}
+use Rattle.components.specs.Walks.{Joins, since, since-all, since-none, since-skip, since-above, since-more, joins-none, joins-since, joint-connected, apart-connected}
 use Rattle.components.specs.Walking.{Joinable, UnitesAt, layout-erasure, erasure-layout}
 
 -- the erasures, and those of them that close a cycle
@@ -90,8 +90,7 @@ module _ {n t : ℕ} {shifts marks p list : List ℕ} {c j k count d j′ k′ :
     erasure = erasure-layout (w .good) marks (omega (arith, w .few)) (omega (arith, m, mark-bit marks d))
 
     joined : {q : List ℕ} (b : Bool) → UnitesAt (layout n t shifts) d p q b → Joins (layout n t shifts) (since d (marked n t shifts marks)) q
-    joined {q} b u =
-        subst (λ F. Joins (layout n t shifts) F q) (sym (since-more (erased n t shifts marks .rising) erasure)) (joins-more d (at-next .joins) (u .united))
+    joined b u = joins-since d (erased n t shifts marks .rising) erasure (at-next .joins) (u .united)
 
     -- its rows were not joined: it closes no cycle
     pub collecting-joins : {q : List ℕ} (b : Bool) → b ≡ false → UnitesAt (layout n t shifts) d p q b → Collecting n t shifts marks q list d j′ k′ count

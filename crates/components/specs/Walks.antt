@@ -1,5 +1,5 @@
 -- The walk over the marked places from high to low: its parents join the places passed, and it remembers the first place that closes a cycle.
--- Main results: joins-more (one more place), walks-skip and walks-join (the steps of the walk), joins-labels (settled parents are labels).
+-- Main results: joins-more (one more place), told-join (whether it closes a cycle), passed-labelled (settled parents are labels).
 use mathlib.Core.Path.{_≡_, refl, sym, _∙_, ap, subst}
 use mathlib.Core.Logic.{⊎-elim, by-cases}
 use mathlib.Core.Bool.{Bool, true, false}
@@ -21,7 +21,7 @@ use Rattle.code.specs.Laws.Forest.{Forest, forest-none, forest-more, above}
 use Rattle.code.specs.Laws.Labels.{label, label-connected, connected-label, label-place, label-le, label-idem, connected-more, connected-own}
 use Rattle.tables.specs.Spots.{Stands}
 use Rattle.tables.specs.declared.walk.Spot.{Spot}
-use Rattle.components.specs.Parents.{Falls, Along, Same, Unites, United, Joint, Apart}
+use Rattle.components.specs.Parents.{Falls, Along, Same, Settled, Unites, United, Joint, Apart}
 use Rattle.components.specs.declared.walk.Closing.{Closing}
 use Rattle.components.specs.declared.walk.Closing.the-variants.{At, None}
 
@@ -47,16 +47,10 @@ Closed L E F None = Forest L F
 unfoldable pub since : ℕ → List ℕ → List ℕ
 since c E = keep (λ d. leb c d) E
 
--- the walk has passed the places of E from c on
-pub record Walks (L : Layout) (E p : List ℕ) (c : ℕ) (k : Closing) : Type 0 where
-  pub joins : Joins L (since c E) p
-  pub closed : Closed L E (since c E) k
-
--- the answer once the place of spot s is passed, which closes a cycle or not
-abbrev pub closing : Closing → Bool → Spot → Closing
-closing (At d) b s = At d
-closing None true s = At s
-closing None false s = None
+-- the walk has passed every place
+pub record Passed (L : Layout) (E p : List ℕ) (k : Closing) : Type 0 where
+  pub joins : Joins L E p
+  pub closed : Closed L E E k
 
 -- the table is that of the labels, and the answer is right
 pub record Labelled (L : Layout) (E p : List ℕ) (k : Closing) : Type 0 where
@@ -162,51 +156,31 @@ joins-labels {L} {E} {p} j flat r h =
 
 -- ---- the walk
 
-pub walks-none : {L : Layout} {E p : List ℕ} {c : ℕ} → Joins L [] p → ((d : ℕ) → d ∈ E → d < c) → Walks L E p c None
-walks-none {L} {E} {p} {c} j h =
-    let e = sym (since-none c E h) in
-    record { joins = subst (λ F. Joins L F p) e j; closed = subst (λ F. Forest L F) e forest-none }
+-- what is said of place c, the lowest that is passed, where those passed before it are a forest: it closes a cycle, or they are a forest still
+abbrev pub Told : Layout → List ℕ → ℕ → Bool → Type 0
+Told L E c true = Closes L E c
+Told L E c false = Forest L (since c E)
 
-closed-same : (L : Layout) (E : List ℕ) {F G : List ℕ} → F ≡ G → (k : Closing) → Closed L E F k → Closed L E G k
-closed-same L E e (At s) h = h
-closed-same L E e None h = subst (λ F. Forest L F) e h
+-- one more place, whose rows are joined
+module _ {L : Layout} {E p q : List ℕ} (c : ℕ) (r : Rising E) (m : c ∈ E) (j : Joins L (since (c + 1) E) p) where
+  pub joins-since : United p (top L c) (bottom L c) q → Joins L (since c E) q
+  joins-since u = subst (λ F. Joins L F q) (sym (since-more r m)) (joins-more c j u)
 
-pub walks-skip : {L : Layout} {E p : List ℕ} {a b : ℕ} (k : Closing) → Walks L E p b k → a ≤ b → ((d : ℕ) → d ∈ E → a ≤ d → d < b → ⊥) → Walks L E p a k
-walks-skip {L} {E} {p} {a} {b} k w l h =
-    let e = since-skip a b E l h in
-    record { joins = subst (λ F. Joins L F p) e (w .joins); closed = closed-same L E e k (w .closed) }
-
-closed-more : {L : Layout} {E p q : List ℕ} (s : Spot) (k : Closing) (b : Bool) → Stands (L .t) (s .place .0) (s .section) (s .offset) → s .place .0 ∈ E
-    → Walks L E p (s .place .0 + 1) k → Unites p (top L (s .place .0)) (bottom L (s .place .0)) q b
-    → Closed L E (s .place .0 ∷ since (s .place .0 + 1) E) (closing k b s)
-closed-more s (At d) b st m w u = w .closed
-closed-more {L} {E} s None true st m w u =
-    let e = since-above (s .place .0) E in (
+  pub told-join : (b : Bool) → Unites p (top L c) (bottom L c) q b → Forest L (since (c + 1) E) → Told L E c b
+  told-join true u f =
+      let e = since-above c E in
       record {
         marked = m;
-        forest = subst (λ F. Forest L F) e (w .closed);
-        connected = subst (λ F. Connected L F (top L (s .place .0)) (bottom L (s .place .0))) e (joint-connected (w .joins) (u .joint));
-      },
-      st,
-    )
-closed-more s None false st m w u = forest-more (apart-connected (w .joins) (u .joint)) (w .closed)
+        forest = subst (λ F. Forest L F) e f;
+        connected = subst (λ F. Connected L F (top L c) (bottom L c)) e (joint-connected j (u .joint));
+      }
+  told-join false u f = subst (λ F. Forest L F) (sym (since-more r m)) (forest-more (apart-connected j (u .joint)) f)
 
-pub walks-join : {L : Layout} {E p q : List ℕ} (s : Spot) (k : Closing) (b : Bool) → Rising E → Stands (L .t) (s .place .0) (s .section) (s .offset)
-    → s .place .0 ∈ E → Walks L E p (s .place .0 + 1) k → Unites p (top L (s .place .0)) (bottom L (s .place .0)) q b
-    → Walks L E q (s .place .0) (closing k b s)
-walks-join {L} {E} {q} s k b r st m w u =
-    let e = sym (since-more r m) in
-    record {
-      joins = subst (λ F. Joins L F q) e (joins-more (s .place .0) (w .joins) (u .united));
-      closed = closed-same L E e (closing k b s) (closed-more s k b st m w u);
-    }
-
-pub walks-labelled : {L : Layout} {E p q : List ℕ} (k : Closing) → Walks L E p 0 k → Same p q
-    → ((r : ℕ) → r < length q → getD q (getD q r 0) 0 ≡ getD q r 0) → Labelled L E q k
-walks-labelled {L} {E} {p} k w s flat =
-    let e = since-all E in
-    let j = joins-same (subst (λ F. Joins L F p) e (w .joins)) s in
-    record { long = j .long; labels = joins-labels j flat; closed = closed-same L E e k (w .closed) }
+-- the parents settled: they are the labels
+pub passed-labelled : {L : Layout} {E p q : List ℕ} {k : Closing} → Passed L E p k → Settled p q (length p) → Labelled L E q k
+passed-labelled w s =
+    let j = joins-same (w .joins) (s .same) in
+    record { long = j .long; labels = joins-labels j (λ r h. s .flat r (omega (arith, s .same .long))); closed = w .closed }
 
 -- the labels are rows
 pub labelled-in : {L : Layout} {E p : List ℕ} {k : Closing} → Labelled L E p k → (r : ℕ) → r < 2 * L .t → getD p r 0 < 2 * L .t

@@ -7,9 +7,9 @@ ghost use Rattle.plan.specs.Layout.{layout};
 ghost use Rattle.plan.specs.GoodPlan.{GoodPlan};
 ghost use Rattle.code.specs.Marks.{erasures};
 ghost use Rattle.tables.specs.Spots.{Stands};
-ghost use Rattle.components.specs.Walks.{closing, Labelled};
+ghost use Rattle.components.specs.Walks.{Passed, Labelled};
 ghost use Rattle.components.specs.Gaps.{Gap};
-ghost use Rattle.components.specs.Walking.{Walking, Joinable, UnitesAt, Passed};
+ghost use Rattle.components.specs.Walking.{Walking, Joinable, UnitesAt, Bare, Stepped, Descends};
 use crate::parents::own;
 use crate::parents::settle;
 use crate::parents::unite;
@@ -27,10 +27,10 @@ pub enum Closing {
     None,
 }
 
-// Every place from the spot on is passed.
-pub struct Walk {
-    pub spot: Spot,
-    pub closing: Closing,
+// Every place from the spot on is passed; its own closes a cycle or not.
+struct Walk {
+    spot: Spot,
+    closes: bool,
 }
 
 // m places back.
@@ -80,22 +80,6 @@ pub fn gap(marks: &[u8], c: Place) -> usize
     zeros
 }
 
-// The answer once the spot's place is passed, which closes a cycle or not.
-fn noted(k: Closing, closes: bool, at: Spot) -> Closing
-    ensures { λ r. ⌜ r ≡ closing k closes at ⌝ }
-{
-    match k {
-        Closing::At(spot) => Closing::At(spot),
-        Closing::None => {
-            if closes {
-                Closing::At(at)
-            } else {
-                Closing::None
-            }
-        }
-    }
-}
-
 // The rows of the spot's place are joined. The answer: they were joined before.
 pub fn join(n: usize, t: usize, shifts: &[u16], parent: &mut [u16], spot: Spot) -> bool
     requires { ⌜ GoodPlan n t (now shifts) × Joinable n t (now parent) (spot .place .0) (spot .section) (spot .offset) ⌝ }
@@ -106,47 +90,68 @@ pub fn join(n: usize, t: usize, shifts: &[u16], parent: &mut [u16], spot: Spot) 
 }
 
 // One step of the walk: a place that is marked, or one that is not and those next below it that are not.
-fn step(n: usize, t: usize, shifts: &[u16], marks: &[u8], parent: &mut [u16], walk: Walk) -> Walk
-    requires { ⌜ Walking n t (now shifts) (now marks) (now parent) (walk .spot .place .0) (walk .spot .section) (walk .spot .offset) (walk .closing) × (0 < walk .spot .place .0) ⌝ }
-    ensures { λ r. ⌜ Walking n t (now (shifts .entry)) (now (marks .entry)) (now (parent .exit)) (r .spot .place .0) (r .spot .section) (r .spot .offset) (r .closing) × (r .spot .place .0 < walk .spot .place .0) ⌝ }
+fn step(n: usize, t: usize, shifts: &[u16], marks: &[u8], parent: &mut [u16], spot: Spot) -> Walk
+    requires { ⌜ Walking n t (now shifts) (now marks) (now parent) (spot .place .0) (spot .section) (spot .offset) × (0 < spot .place .0) ⌝ }
+    ensures { λ r. ⌜ Stepped n t (now (shifts .entry)) (now (marks .entry)) (now (parent .exit)) (spot .place .0) (r .spot .place .0) (r .spot .section) (r .spot .offset) (r .closes) ⌝ }
 {
-    let k = walk.closing;
-    let at = back(walk.spot, t, 1);
+    let at = back(spot, t, 1);
     if bit(marks, at.place) == 0 {
         let c = at.place;
         let m = gap(marks, c);
         return Walk {
             spot: back(at, t, m),
-            closing: k,
+            closes: false,
         };
     }
     let closes = join(n, t, shifts, parent, at);
-    Walk {
-        spot: at,
-        closing: noted(k, closes, at),
-    }
+    Walk { spot: at, closes }
 }
 
-// The whole walk, from a table in which every row is its own parent. It ends where no mark is left below.
+// The steps from a spot on: to the next place that closes a cycle, if it is to stop there, else to the end. No place below `low` is marked.
+fn descend(
+    n: usize,
+    t: usize,
+    shifts: &[u16],
+    marks: &[u8],
+    parent: &mut [u16],
+    low: usize,
+    from: Spot,
+    stop: bool,
+) -> Closing
+    requires { ⌜ Walking n t (now shifts) (now marks) (now parent) (from .place .0) (from .section) (from .offset) × Bare (now marks) low ⌝ }
+    ensures { λ r. ⌜ Descends n t (now (shifts .entry)) (now (marks .entry)) (now (parent .exit)) (from .place .0) stop r ⌝ }
+{
+    let mut spot = from;
+    let mut left = from.place.0 as usize;
+    while low < left {
+        let passed = step(n, t, shifts, marks, &mut parent[..], spot);
+        spot = passed.spot;
+        if passed.closes & stop {
+            return Closing::At(spot);
+        }
+        left = spot.place.0 as usize;
+    }
+    Closing::None
+}
+
+// The whole walk, from a table in which every row is its own parent. The closing place is kept outside the steps, which then have less to carry.
 fn pass(n: usize, t: usize, shifts: &[u16], marks: &[u8], parent: &mut [u16]) -> Closing
-    requires { ⌜ Walking n t (now shifts) (now marks) (now parent) (n * t) n 0 Closing.None ⌝ }
-    ensures { λ r. ⌜ Passed n t (now (shifts .entry)) (now (marks .entry)) (now (parent .exit)) r ⌝ }
+    requires { ⌜ Walking n t (now shifts) (now marks) (now parent) (n * t) n 0 ⌝ }
+    ensures { λ r. ⌜ Passed (layout n t (now (shifts .entry))) (erasures (layout n t (now (shifts .entry))) (now (marks .entry))) (now (parent .exit)) r ⌝ }
 {
     let low = 8 * pass_zeros(marks, 0);
-    let mut left = n * t;
-    let mut walk = Walk {
-        spot: Spot {
-            place: Place(left as u16),
-            section: n,
-            offset: 0,
-        },
-        closing: Closing::None,
+    let places = n * t;
+    let start = Spot {
+        place: Place(places as u16),
+        section: n,
+        offset: 0,
     };
-    while low < left {
-        walk = step(n, t, shifts, marks, &mut parent[..], walk);
-        left = walk.spot.place.0 as usize;
-    }
-    walk.closing
+    let first = descend(n, t, shifts, marks, &mut parent[..], low, start, true);
+    let Closing::At(spot) = first else {
+        return Closing::None;
+    };
+    descend(n, t, shifts, marks, &mut parent[..], low, spot, false);
+    Closing::At(spot)
 }
 
 // The label of every row, which is the lowest row of its component, and the highest place that closes a cycle.

@@ -93,16 +93,16 @@ module _ {n t : ℕ} {shifts marks : List ℕ} (m : Scan.Lent n t shifts marks) 
   unfolding layout
   closed-at {s = s} e h =
       let E = erasures (layout n t shifts) marks in
-      let at : Closed (layout n t shifts) E E (At s) = subst (λ k. Closed (layout n t shifts) E E k) e h in (
+      let q : Closed (layout n t shifts) E E (At s) = subst (λ k. Closed (layout n t shifts) E E k) e h in (
         record {
           good = m .good;
           marks-long = m .marks-long;
           no-spare = m .no-spare;
-          member = at .0 .marked;
-          forest = at .0 .forest;
-          connected = at .0 .connected;
+          member = q .0 .marked;
+          forest = q .0 .forest;
+          connected = q .0 .connected;
         },
-        at .1,
+        q .1,
       )
 
   pub loosens-shown : {c z : ℕ} {w' : List ℕ} → cycle.Showing n t shifts marks c w' z

@@ -1,5 +1,6 @@
 -- `walk::labels` meets its contract. Assumes nothing.
-use Rattle.components.specs.Walking.{walking-start, passed-labelled}
+use Rattle.components.specs.Walks.{passed-labelled}
+use Rattle.components.specs.Walking.{walking-start}
 use borrow.Author.Needs.{needs}
 use Rattle.components.proofs.walk.labels.Statement.{statement}
 use Rattle.components.proofs.walk.labels.Tie as tie

@@ -1,63 +1,48 @@
--- `walk::pass` meets its contract. The invariant: the walk stands at the place left, and the table is that of the places passed. The measure is that place. Assumes nothing.
-
-use mathlib.Core.Path.{_≡_, refl, _∙_}
+-- `walk::pass` meets its contract: down to the first place that closes a cycle, and on from there. Assumes nothing.
+use mathlib.Core.Path.{refl, _∙_}
 use native.Mathlib.Omega.{arith}
-use lib.ListN.{length}
 use borrow.Author.Needs.{needs}
-use Rattle.components.specs.Walking.{Walking, walking-passed}
+use Rattle.components.specs.Walking.{bare, first-at, passed-at, passed-none}
 use Rattle.components.proofs.walk.pass.Statement.{statement}
 use Rattle.components.proofs.walk.pass.Tie as tie
 
-abbrev Inv-loop : tie.InvT-loop
-Inv-loop n t shifts marks parent₀ low left₀ walk₀ parent left walk = Walking n t shifts marks parent (walk .spot .place .0) (walk .spot .section) (walk .spot .offset) (walk .closing) × (left ≡ walk .spot .place .0) × (length parent ≡ length parent₀)
-
-abbrev μ-loop : tie.MeasureT-loop
-μ-loop n t shifts marks parent₀ low left₀ walk₀ parent left walk = left
-
-pass-zeros-requires : tie.Need-pass-zeros-requires Inv-loop μ-loop
+pass-zeros-requires : tie.Need-pass-zeros-requires
 pass-zeros-requires c κs = omega (arith, c .before .before .before .pre .good, c .before .before .before .pre .bytes)
 
-mul-low : tie.Need-mul-low Inv-loop μ-loop
+mul-low : tie.Need-mul-low
 mul-low c = omega (arith, c .pass-zeros .ensures .1)
 
-mul-left : tie.Need-mul-left Inv-loop μ-loop
-mul-left c = omega (arith, c .before .before .before .before .pre .good)
+mul-places : tie.Need-mul-places
+mul-places c = omega (arith, c .before .before .before .before .pre .good)
 
-cast-t10 : tie.Need-cast-t10 Inv-loop μ-loop
-cast-t10 c = omega (arith, c .before .before .before .before .pre .good)
+cast-t12 : tie.Need-cast-t12
+cast-t12 c = omega (arith, c .before .before .before .before .pre .good)
 
-loop-holds : tie.Need-loop-holds Inv-loop μ-loop
-loop-holds c = (c .before .before .before .before .pre, refl, refl)
+descend-requires : tie.Need-descend-requires
+descend-requires c κs = (c .before .before .before .before .before .pre, bare (c .before .pass-zeros .ensures .0) refl)
 
-step-requires : tie.Need-step-requires Inv-loop μ-loop
-step-requires c κs = (c .before .before .loop .inv .0, omega (arith, c .before .before .loop .inv .1, c .before .loop-test .taken))
+returns : tie.Need-returns
+returns c = passed-none (c .before .before .before .before .before .before .before .before .before .before .pre) (c .enum-told .given .1) (c .before .before .before .before .descend .ensures)
 
-loop-less : tie.Need-loop-less Inv-loop μ-loop
-loop-less c = omega (arith, c .before .before .before .step .ensures .1, c .before .before .before .before .before .before .loop .inv .1)
+descend-requires-2 : tie.Need-descend-requires-2
+descend-requires-2 c κs = (first-at (c .before .before .first .given .1) (c .before .before .before .before .before .before .descend .ensures) .walking, bare (c .before .before .before .before .before .before .before .before .pass-zeros .ensures .0) refl)
 
-loop-again : tie.Need-loop-again Inv-loop μ-loop
-loop-again c = (c .before .before .before .step .ensures .0, refl, c .before .before .before .step .kept .1 .1 .1 .1 .0 ∙ c .before .before .before .before .before .before .loop .inv .2)
-
-same-length : tie.Need-same-length Inv-loop μ-loop
-same-length c = c .before .loop .inv .2
-
-returns : tie.Need-returns Inv-loop μ-loop
-returns c = walking-passed (c .before .loop .inv .0) (c .before .before .pass-zeros .ensures .0) (omega (arith, c .loop-test .left, c .before .loop .inv .1))
+returns-2 : tie.Need-returns-2
+returns-2 c = passed-at (c .before .before .before .before .before .before .before .before .before .before .before .before .before .before .before .pre) (c .before .before .before .before .before .first .given .0 .0) (first-at (c .before .before .before .before .before .first .given .1) (c .before .before .before .before .before .before .before .before .before .descend .ensures)) _ (c .before .before .descend2 .ensures)
 
 pub pass-spec : {M : Type 1} → statement M
 pass-spec =
     tie.close
     (tie.spec
-    Inv-loop
-    μ-loop
     pass-zeros-requires
     mul-low
-    mul-left
-    cast-t10
-    loop-holds
-    step-requires
+    mul-places
+    cast-t12
+    descend-requires
     (λ c. search needs)
-    loop-less
-    loop-again
-    same-length
-    returns)
+    (λ c. search needs)
+    (λ c. c .before .before .before .before .descend .kept .1 .1 .1 .1 .0)
+    returns
+    descend-requires-2
+    (λ c. c .before .before .descend2 .kept .1 .1 .1 .1 .0 ∙ c .before .before .before .before .before .before .before .before .before .descend .kept .1 .1 .1 .1 .0)
+    returns-2)

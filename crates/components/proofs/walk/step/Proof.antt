@@ -1,19 +1,17 @@
 -- `walk::step` meets its contract: the steps are laws of specs/Walking. Assumes nothing.
 use borrow.Author.Needs.{needs}
-use Rattle.components.specs.Walking.{walking-gap, walking-bit, walking-joinable, walking-join}
+use Rattle.components.specs.Walking.{walking-joinable, stepped-gap, stepped-join}
 use Rattle.components.proofs.walk.step.Statement.{statement}
 use Rattle.components.proofs.walk.step.Tie as tie
 
 returns : tie.Need-returns
-returns c =
-    let w = walking-bit (c .before .before .before .before .before .before .before .before .before .pre .0) (c .before .before .before .before .before .back .ensures .0) (c .before .before .before .before .before .back .ensures .1) (search needs) in
-    (walking-gap w (c .back2 .ensures .0) (c .back2 .ensures .1) (c .before .gap .ensures), search needs)
+returns c = stepped-gap (c .before .before .before .before .before .before .before .before .before .pre .0) (c .back2 .ensures .0) (c .before .before .before .before .before .back .ensures .1) (search needs) (c .back2 .ensures .1) (c .before .gap .ensures)
 
 join-requires : tie.Need-join-requires
 join-requires c κs = (c .before .before .before .before .before .before .before .pre .0 .good, walking-joinable (c .before .before .before .before .before .before .before .pre .0) (c .before .before .before .back .ensures .0) (c .before .before .before .back .ensures .1))
 
 returns-2 : tie.Need-returns-2
-returns-2 c = (rw (c .noted .ensures) (walking-join (c .before .before .before .before .before .before .before .back .result) (c .before .before .before .join .result) (c .before .before .before .before .before .before .before .before .before .before .before .pre .0) (c .before .before .before .before .before .before .before .back .ensures .0) (c .before .before .before .before .before .before .before .back .ensures .1) (search needs) (c .before .before .before .join .ensures)), search needs)
+returns-2 c = stepped-join (c .before .before .before .before .before .before .before .before .before .before .pre .0) (c .before .before .before .before .before .before .back .ensures .0) (c .before .before .join .result) (c .before .before .before .before .before .before .back .ensures .1) (search needs) (c .before .before .join .ensures)
 
 pub step-spec : {M : Type 1} → statement M
 step-spec =
@@ -25,6 +23,5 @@ step-spec =
     (λ c κs. search needs)
     returns
     join-requires
-    (λ c κs. search needs)
     (λ c. search needs)
     returns-2)
