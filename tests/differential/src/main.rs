@@ -50,7 +50,8 @@ const EACH_SIZE: usize = 100;
 const IN_ALL: usize = 200_000;
 
 /// n, t and size of plans at the bounds.
-const BOUNDS: [(usize, usize, usize); 8] = [(2, 1, 0), (3, 1, 0), (2, 2, 0), (32, 1, 1), (2, 2_048, 3), (16, 2_048, 4), (32, 1_024, 4), (32, 1_023, 4)];
+const BOUNDS: [(usize, usize, usize); 8] =
+    [(2, 1, 0), (3, 1, 0), (2, 2, 0), (32, 1, 1), (2, 2_048, 3), (16, 2_048, 4), (32, 1_024, 4), (32, 1_023, 4)];
 
 /// Where the lowest place of a shown ring lies, by n, t and the place: each is met as often as an outcome. It is never in the last section: the place after it
 /// in the ring has its offset, in a section further on.
