@@ -10,6 +10,7 @@ use native.Mathlib.Decide.{ℕ-discrete}
 use native.Mathlib.Omega.{arith}
 use lib.ListN.{length, getD}
 use Rattle.bounds.specs.Bounds.{maxN, maxT}
+use Rattle.math.specs.Tests.{and-left, and-right}
 use Rattle.math.specs.Members.{_∈_}
 use Rattle.math.specs.MembersLaws.{∈-upTo}
 use Rattle.plan.specs.Layout.{Layout, layout, top, bottom, bottomRow}
@@ -169,10 +170,6 @@ module _ {n t : ℕ} {shifts marks p : List ℕ} {c j k d j′ k′ : ℕ} (w : 
 
 -- ---- the steps down
 
-both : (a b : Bool) → a && b ≡ true → (a ≡ true) × (b ≡ true)
-both true b e = (refl, e)
-both false b e = absurd (true≢false (sym e))
-
 not-both : (a b : Bool) → a && b ≡ false → b ≡ true → a ≡ false
 not-both true b e i = absurd (true≢false (sym i ∙ e))
 not-both false b e i = refl
@@ -198,8 +195,13 @@ module _ {n t : ℕ} {shifts marks : List ℕ} where
     -- it stops
     pub descends-at : closes && stop ≡ true → Descends n t shifts marks q b stop (At s)
     descends-at e =
-        let two = both closes stop e in
-        record { next = (two .1, record { walking = h .walking; down = omega (arith, o .down, h .down); told = told-as true (two .0) (two .1) }) }
+        let i = and-right closes stop e in
+        record {
+          next = (
+            i,
+            record { walking = h .walking; down = omega (arith, o .down, h .down); told = told-as true (and-left closes stop e) i },
+          );
+        }
 
   -- no place below is marked
   pub descends-none : {p : List ℕ} {b c j k low : ℕ} (stop : Bool) → Descending n t shifts marks p b c j k stop → Bare marks low → c ≤ low

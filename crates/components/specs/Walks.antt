@@ -17,10 +17,9 @@ use Rattle.math.specs.MembersLaws.{by-place, keep-all, keep-none, keep-ext, ris
 use Rattle.plan.specs.Layout.{Layout, top, bottom}
 use Rattle.code.specs.Places.{Meets}
 use Rattle.code.specs.Components.{Connected, here, along}
-use Rattle.code.specs.Laws.Forest.{Forest, forest-none, forest-more, above}
+use Rattle.code.specs.Laws.Forest.{Forest, forest-more, above}
 use Rattle.code.specs.Laws.Labels.{label, label-connected, connected-label, label-place, label-le, label-idem, connected-more, connected-own}
 use Rattle.tables.specs.Spots.{Stands}
-use Rattle.tables.specs.declared.walk.Spot.{Spot}
 use Rattle.components.specs.Parents.{Falls, Along, Same, Settled, Unites, United, Joint, Apart}
 use Rattle.components.specs.declared.walk.Closing.{Closing}
 use Rattle.components.specs.declared.walk.Closing.the-variants.{At, None}
@@ -38,10 +37,10 @@ pub record Closes (L : Layout) (E : List ℕ) (c : ℕ) : Type 0 where
   pub forest : Forest L (above c E)
   pub connected : Connected L (above c E) (top L c) (bottom L c)
 
--- what an answer says when the places F of E have been passed; section and offset are those of the place
-abbrev pub Closed : Layout → List ℕ → List ℕ → Closing → Type 0
-Closed L E F (At s) = Closes L E (s .place .0) × Stands (L .t) (s .place .0) (s .section) (s .offset)
-Closed L E F None = Forest L F
+-- what an answer says of the places E: the highest that closes a cycle, with its section and offset, or that they are a forest
+abbrev pub Closed : Layout → List ℕ → Closing → Type 0
+Closed L E (At s) = Closes L E (s .place .0) × Stands (L .t) (s .place .0) (s .section) (s .offset)
+Closed L E None = Forest L E
 
 -- the places of E from c on
 unfoldable pub since : ℕ → List ℕ → List ℕ
@@ -50,13 +49,13 @@ since c E = keep (λ d. leb c d) E
 -- the walk has passed every place
 pub record Passed (L : Layout) (E p : List ℕ) (k : Closing) : Type 0 where
   pub joins : Joins L E p
-  pub closed : Closed L E E k
+  pub closed : Closed L E k
 
 -- the table is that of the labels, and the answer is right
 pub record Labelled (L : Layout) (E p : List ℕ) (k : Closing) : Type 0 where
   pub long : length p ≡ 2 * L .t
   pub labels : (r : ℕ) → r < 2 * L .t → getD p r 0 ≡ label L E r
-  pub closed : Closed L E E k
+  pub closed : Closed L E k
 
 -- ---- places passed
 

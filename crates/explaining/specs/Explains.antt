@@ -79,8 +79,8 @@ module _ (L : Layout) (ok : Valid L) {E : List ℕ} (er : Erased L E) {parent su
   }
 
 -- without a closing place there is a forest
-pub closed-none : (L : Layout) (E F : List ℕ) {k : Closing} → k ≡ closing.None → Closed L E F k → Forest L F
-closed-none L E F e h = subst (λ i. Closed L E F i) e h
+pub closed-none : (L : Layout) (E : List ℕ) {k : Closing} → k ≡ closing.None → Closed L E k → Forest L E
+closed-none L E e h = subst (λ i. Closed L E i) e h
 
 -- a forest has no cycle, and no block with a forest of erasures is asked about
 pub loosens-forest : {L : Layout} {E : List ℕ} {r : Recovery} {w' : List ℕ} → Forest L E → Loosens L E r w'
@@ -88,12 +88,12 @@ loosens-forest f = record { decides = λ v a none. absurd (none f (a .0) (a .1))
 
 module _ {n t : ℕ} {shifts marks : List ℕ} (m : Scan.Lent n t shifts marks) where
   -- the closing place, with its section and offset
-  pub closed-at : {k : Closing} {s : Spot} → k ≡ At s → Closed (layout n t shifts) (erasures (layout n t shifts) marks) (erasures (layout n t shifts) marks) k
+  pub closed-at : {k : Closing} {s : Spot} → k ≡ At s → Closed (layout n t shifts) (erasures (layout n t shifts) marks) k
       → cycle.Closing n t shifts marks (s .place .0) × Stands t (s .place .0) (s .section) (s .offset)
   unfolding layout
   closed-at {s = s} e h =
       let E = erasures (layout n t shifts) marks in
-      let q : Closed (layout n t shifts) E E (At s) = subst (λ k. Closed (layout n t shifts) E E k) e h in (
+      let q : Closed (layout n t shifts) E (At s) = subst (λ k. Closed (layout n t shifts) E k) e h in (
         record {
           good = m .good;
           marks-long = m .marks-long;

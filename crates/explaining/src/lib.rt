@@ -65,7 +65,7 @@ fn loose(
     witness: &mut [u16],
 ) -> Recovery
     requires { ⌜ Lent n t (now shifts) (now marks) ⌝ }
-    requires { ⌜ Closed (layout n t (now shifts)) (erasures (layout n t (now shifts)) (now marks)) (erasures (layout n t (now shifts)) (now marks)) closing ⌝ }
+    requires { ⌜ Closed (layout n t (now shifts)) (erasures (layout n t (now shifts)) (now marks)) closing ⌝ }
     requires { ⌜ Room t (now sum) (now tally) (now place) (now value) × (length (now witness) ≡ 2 * t) ⌝ }
     ensures { λ r. ⌜ Loosens (layout n t (now (shifts .entry))) (erasures (layout n t (now (shifts .entry))) (now (marks .entry))) r (now (witness .exit)) ⌝ }
 {

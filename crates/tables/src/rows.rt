@@ -20,7 +20,7 @@ pub fn top(spot: Spot) -> Row
     Row(spot.offset as u16)
 }
 
-// p is the shift of the spot's section. Every walk asks this of each place that it stands at, so here section and offset have to be those of the place.
+// p is the shift of the spot's section. Section and offset have to be those of the place: every walk that wants a bottom row asks for it here.
 pub fn bottom(spot: Spot, t: usize, p: usize) -> Row
     requires { ⌜ Stands t (spot .place .0) (spot .section) (spot .offset) × (p < t) × (t ≤ maxT) ⌝ }
     ensures { λ r. ⌜ r .0 ≡ bottomRow t p (spot .offset) ⌝ }

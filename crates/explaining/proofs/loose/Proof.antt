@@ -5,7 +5,7 @@ use Rattle.explaining.proofs.loose.Statement.{statement}
 use Rattle.explaining.proofs.loose.Tie as tie
 
 returns : tie.Need-returns
-returns c = loosens-forest (closed-none _ _ _ (c .enum-told .given .1) (c .before .before .before .before .before .before .before .before .before .pre .1 .0))
+returns c = loosens-forest (closed-none _ _ (c .enum-told .given .1) (c .before .before .before .before .before .before .before .before .before .pre .1 .0))
 
 show-requires : tie.Need-show-requires
 show-requires c κs = (closed-at (c .before .before .before .before .before .before .before .before .before .before .before .before .before .before .before .pre .0) (c .before .before .before .before .before .before .closing .given .1) (c .before .before .before .before .before .before .before .before .before .before .before .before .before .before .before .pre .1 .0), c .before .before .before .before .before .before .before .before .before .before .before .before .before .before .before .pre .1 .1)
