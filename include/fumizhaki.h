@@ -26,9 +26,8 @@
  *     5   crossed    no codeword agrees
  *     6   loose      two or more codewords agree
  *     10  family     the family has no such plan
- *     11  unsealed   no codeword carries the message (proved never to come)
- * The first of 1, 2, 3, 4 that holds is given, and after it every buffer is as it was. 10 follows 1; 5, 6 and 11 follow
- * the others.
+ * The first of 1, 2, 3, 4 that holds is given, and after it every buffer is as it was. 10 follows 1; 5 and 6 follow the
+ * others.
  *
  * What a caller owes. A pointer with a length points to that many elements, which may be read and, where it is not
  * const, written until the call returns; with length 0 it may be NULL (no plan has an empty buffer, so such a call is
@@ -119,7 +118,7 @@ uint8_t fumizhaki_fetch(fumizhaki_plan plan, const uint8_t *marks, size_t marks_
                         size_t list_length, size_t *count);
 
 /* Writes to block the one codeword that carries the message: its symbols at the message places, in rising order, are
-   the message. Answers 0; 1; 2; 3; 11. Every answer but 0 keeps the block. */
+   the message. There is one for every message. Answers 0; 1; 2; 3. Every answer but 0 keeps the block. */
 uint8_t fumizhaki_encode(fumizhaki_plan plan, const uint8_t *message, size_t message_length, uint8_t *block,
                          size_t block_length);
 

@@ -95,8 +95,6 @@ pub enum Refusal {
     Crossed,
     /// 10: the family has no such plan
     Family,
-    /// 11: the parity places cannot be worked out
-    Unsealed,
     /// a number that this crate does not know
     Other(u8),
 }
@@ -111,13 +109,12 @@ impl Refusal {
             Refusal::Spare => 4,
             Refusal::Crossed => 5,
             Refusal::Family => 10,
-            Refusal::Unsealed => 11,
             Refusal::Other(number) => number,
         }
     }
 
     fn of(number: u8) -> Refusal {
-        let known = [Refusal::Size, Refusal::Shift, Refusal::Length, Refusal::Spare, Refusal::Crossed, Refusal::Family, Refusal::Unsealed];
+        let known = [Refusal::Size, Refusal::Shift, Refusal::Length, Refusal::Spare, Refusal::Crossed, Refusal::Family];
         known.into_iter().find(|refusal| refusal.number() == number).unwrap_or(Refusal::Other(number))
     }
 }
@@ -131,7 +128,6 @@ impl fmt::Display for Refusal {
             Refusal::Spare => "spare",
             Refusal::Crossed => "crossed",
             Refusal::Family => "family",
-            Refusal::Unsealed => "unsealed",
             Refusal::Other(_) => "unknown",
         };
         write!(out, "refused {} {word}", self.number())
@@ -283,7 +279,7 @@ impl Plan {
         done(unsafe { sys::fumizhaki_fetch(*self, marks.as_ptr(), marks.len(), list.as_mut_ptr(), list.len(), &mut count) }).map(|()| count)
     }
 
-    /// Writes to `block` the one codeword that carries `message`; refusals 1 to 3 (and 11) leave `block` as it was.
+    /// Writes to `block` the one codeword that carries `message`, which there is for every message; refusals 1 to 3 leave `block` as it was.
     pub fn encode(&self, message: &[u8], block: &mut [u8]) -> Result<(), Refusal> {
         done(unsafe { sys::fumizhaki_encode(*self, message.as_ptr(), message.len(), block.as_mut_ptr(), block.len()) })
     }
@@ -312,6 +308,7 @@ mod tests {
             assert_eq!(Refusal::of(number).number(), number);
         }
         assert_eq!(Refusal::of(3), Refusal::Length);
+        assert_eq!(Refusal::of(11), Refusal::Other(11));
         assert_eq!(Refusal::of(12), Refusal::Other(12));
         assert_eq!(Refusal::Spare.to_string(), "refused 4 spare");
     }

@@ -16,7 +16,7 @@ use Rattle.code.specs.FiguresOnce.{figures-unique}
 use Rattle.code.specs.Laws.Carrying.{lists-unique}
 use Rattle.code.specs.Laws.MarksLaws.{erasures-erased}
 use Rattle.code.specs.Theorems.{fetch-list-once}
-use Rattle.promises.specs.Building.{carries-single}
+use Rattle.promises.specs.Building.{carries-only}
 use Rattle.promises.specs.Once.{decides-once}
 use Rattle.answers.specs.declared.Recovery.{Recovery}
 use Rattle.answers.specs.declared.Recovery.the-variants as recovery
@@ -100,10 +100,9 @@ listing-once p q =
 sealing-once : {s a b : State} {x y : List ℕ} → planCheck (s .plan) ≡ Pass → Sealing s a x → Sealing s b y → (a ≡ b) × (x ≡ y)
 sealing-once {s} {a} {b} {x} {y} good p q =
     let e : p .places ≡ q .places = lists-unique (p .message-places) (q .message-places) in
-    let one = carries-single (s .plan) (good-valid (s .plan) good) (p .carries) in
     let f : p .block ≡ q .block =
-    one .only-one (p .block) (p .carries)
-    ∙ sym (one .only-one (q .block) (subst (λ l. Carries (layoutOf (s .plan)) (q .block) (map (at (s .block)) l)) (sym e) (q .carries))) in (
+    carries-only (s .plan) (good-valid (s .plan) good)
+    (subst (λ l. Carries (layoutOf (s .plan)) (q .block) (map (at (s .block)) l)) (sym e) (q .carries)) (p .block) (p .carries) in (
       p .state ∙ ap (λ v. withBlock s v (replicate (markBytes (layoutOf (s .plan))) 0)) f ∙ sym (q .state),
       p .says ∙ ap (λ l. line sealedWord (length l ∷ [])) e ∙ sym (q .says),
     )

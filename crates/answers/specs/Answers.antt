@@ -26,7 +26,6 @@ recoveryCount (recovery.Refused x) = 0
 
 abbrev pub encodingNumber : Encoding → ℕ
 encodingNumber encoding.Encoded = 0
-encodingNumber encoding.Unsealed = numberOf refusal.Unsealed
 encodingNumber (encoding.Refused x) = numberOf x
 
 abbrev pub readingNumber : Reading → ℕ

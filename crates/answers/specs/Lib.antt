@@ -1,2 +1,3 @@
--- The answers of recover, encode and message_of: their numbers and values.
+-- The answers of recover, encode, message_of and fetch: their numbers and values.
 pub mod Answers
+pub mod AnswerLaws

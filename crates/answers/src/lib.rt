@@ -13,7 +13,6 @@ pub enum Recovery {
 
 pub enum Encoding {
     Encoded,
-    Unsealed,
     Refused(Refusal),
 }
 
@@ -59,7 +58,6 @@ impl Encoding {
     {
         match self {
             Encoding::Encoded => 0,
-            Encoding::Unsealed => Refusal::Unsealed.number(),
             Encoding::Refused(x) => x.number(),
         }
     }

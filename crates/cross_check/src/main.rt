@@ -39,11 +39,11 @@ fn line(count: u64) {
 }
 
 fn main() {
-    let mut tally = [0u64; 19];
+    let mut tally = [0u64; 18];
     fixed::all(&mut tally);
     seeded::all(&mut tally);
     sheet(
-        b"recovered,loose,crossed,counted,sealed,read,read crossed,figures,plan,size,shift,length,spare,family,unsealed,ended,waiting,fetched,mismatches,",
+        b"recovered,loose,crossed,counted,sealed,read,read crossed,figures,plan,size,shift,length,spare,family,ended,waiting,fetched,mismatches,",
         &tally,
     );
 }

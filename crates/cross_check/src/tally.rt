@@ -29,15 +29,13 @@ pub(crate) const SPARE: usize = 12;
 
 pub(crate) const FAMILY: usize = 13;
 
-pub(crate) const UNSEALED: usize = 14;
+pub(crate) const ENDED: usize = 14;
 
-pub(crate) const ENDED: usize = 15;
+pub(crate) const WAITING: usize = 15;
 
-pub(crate) const WAITING: usize = 16;
+pub(crate) const FETCHED: usize = 16;
 
-pub(crate) const FETCHED: usize = 17;
-
-pub(crate) const MISMATCH: usize = 18;
+pub(crate) const MISMATCH: usize = 17;
 
 // The outcome of a refusal's number; of any other number a mismatch.
 pub(crate) fn refusal(number: usize) -> usize {
@@ -47,7 +45,6 @@ pub(crate) fn refusal(number: usize) -> usize {
         3 => LENGTH,
         4 => SPARE,
         10 => FAMILY,
-        11 => UNSEALED,
         _ => MISMATCH,
     }
 }
@@ -60,7 +57,7 @@ pub(crate) fn judged(same: bool, outcome: usize) -> usize {
     MISMATCH
 }
 
-pub(crate) type Tally = [u64; 19];
+pub(crate) type Tally = [u64; 18];
 
 pub(crate) fn note(tally: &mut Tally, outcome: usize) {
     let i = least(outcome, MISMATCH);
@@ -68,7 +65,7 @@ pub(crate) fn note(tally: &mut Tally, outcome: usize) {
 }
 
 pub(crate) fn count(tally: &Tally, k: usize) -> u64 {
-    if k < 19 {
+    if k < 18 {
         return tally[k];
     }
     0

@@ -1,5 +1,5 @@
 -- What the numbers of fumizhaki_recover, fumizhaki_encode, fumizhaki_message_of and fumizhaki_fetch say, and what each leaves: the words of include/fumizhaki.h, with no answer
--- in between. That the entries' promises say this is in Theorems.antt.
+-- in between. That the entries' promises say this is in Theorems.antt. Last, what it is for a number to stand for nothing.
 use mathlib.Core.Path.{_≡_}
 use mathlib.Core.Logic.{_↔_, _≢_}
 use mathlib.Core.List.{List, [], _∷_}
@@ -7,8 +7,9 @@ use Prim.Native.Nat.{ℕ, _*_, _≤_, _<_}
 use lib.ListN.{length, replicate}
 use Rattle.math.specs.Members.{_∈_}
 use Rattle.math.specs.Padded.{padded}
-use Rattle.plan.specs.Plans.{layoutOf}
+use Rattle.plan.specs.Plans.{layoutOf, countNumber}
 use Rattle.plan.specs.declared.Plan.{Plan}
+use Rattle.plan.specs.declared.Count.{Count}
 use Rattle.code.specs.Places.{places}
 use Rattle.code.specs.Codewords.{at, syndrome, Codeword, Agrees, Single, TwoOrMore, None}
 use Rattle.code.specs.Marks.{erasures}
@@ -16,11 +17,19 @@ use Rattle.code.specs.Cycles.{Cycle}
 use Rattle.code.specs.Components.{Inconsistent}
 use Rattle.code.specs.Messages.{Carries}
 use Rattle.code.specs.FetchList.{FetchBits}
-use Rattle.refusals.specs.Refusals.{numberOf}
+use Rattle.refusals.specs.Refusals.{numberOf, checkNumber}
 use Rattle.calls.specs.Calls.{checkOf}
 use Rattle.refusals.specs.declared.Refusal.{Refusal}
+use Rattle.refusals.specs.declared.Check.{Check}
 use Rattle.refusals.specs.declared.Check.the-variants.{Pass, Stop}
 use Rattle.promises.specs.Promises.{recoverLent, messageLent, fetchCheck}
+use Rattle.answers.specs.Answers.{recoveryNumber, encodingNumber, readingNumber, fetchingNumber}
+use Rattle.answers.specs.declared.Recovery.{Recovery}
+use Rattle.answers.specs.declared.Encoding.{Encoding}
+use Rattle.answers.specs.declared.Reading.{Reading}
+use Rattle.answers.specs.declared.Fetching.{Fetching}
+use Rattle.figures.specs.Answers.{saidBy}
+use Rattle.figures.specs.declared.Answer.{Answer}
 
 -- a codeword equals the block at every unmarked place
 abbrev pub AgreesWith : Plan → List ℕ → List ℕ → List ℕ → Type 0
@@ -48,14 +57,12 @@ pub record RecoverMeans (p : Plan) (v m w : List ℕ) (number count : ℕ) (v' w
       × ((k : List ℕ) → Cycle (layoutOf p) (erasures (layoutOf p) m) k → at k 0 ≤ at l 0))
 
 pub record EncodeMeans (p : Plan) (d v : List ℕ) (number : ℕ) (v' : List ℕ) : Type 0 where
-  pub numbers : number ∈ (0 ∷ 1 ∷ 2 ∷ 3 ∷ 11 ∷ [])
+  pub numbers : number ∈ (0 ∷ 1 ∷ 2 ∷ 3 ∷ [])
   -- 1 to 3: what refuses the call
-  pub refused-when : (x : Refusal) → numberOf x < 5 → (number ≡ numberOf x) ↔ (checkOf p (messageLent d v) [] ≡ Stop x)
-  -- 0: the block is the one codeword that carries the message
-  pub zero-when : (number ≡ 0) ↔ ((checkOf p (messageLent d v) [] ≡ Pass) × Single (λ x. Carries (layoutOf p) x d))
-  pub zero-leaves : number ≡ 0 → Carries (layoutOf p) v' d
-  -- 11: none carries it
-  pub eleven-when : (number ≡ 11) ↔ ((checkOf p (messageLent d v) [] ≡ Pass) × None (λ x. Carries (layoutOf p) x d))
+  pub refused-when : (x : Refusal) → (number ≡ numberOf x) ↔ (checkOf p (messageLent d v) [] ≡ Stop x)
+  -- 0: nothing refuses it; the block is the one codeword that carries the message
+  pub zero-when : (number ≡ 0) ↔ (checkOf p (messageLent d v) [] ≡ Pass)
+  pub zero-leaves : number ≡ 0 → Carries (layoutOf p) v' d × ((x : List ℕ) → Carries (layoutOf p) x d → x ≡ v')
   -- every number but 0 keeps the block
   pub else-keeps : number ≢ 0 → v' ≡ v
 
@@ -79,3 +86,14 @@ pub record FetchMeans (p : Plan) (m l : List ℕ) (number count : ℕ) (l' : Lis
   -- 0: nothing refuses it; the list's bits are the fetch list of the marked places, the count is their number
   pub zero-when : (number ≡ 0) ↔ (fetchCheck p m l ≡ Pass)
   pub zero-leaves : number ≡ 0 → FetchBits (layoutOf p) (erasures (layoutOf p) m) (length m) l' count
+
+-- a number that no refusal has, and no answer of an entry
+pub record Unused (number : ℕ) : Type 0 where
+  pub refusal : (x : Refusal) → numberOf x ≢ number
+  pub check : (k : Check) → checkNumber k ≢ number
+  pub recovery : (a : Recovery) → recoveryNumber a ≢ number
+  pub encoding : (a : Encoding) → encodingNumber a ≢ number
+  pub reading : (a : Reading) → readingNumber a ≢ number
+  pub fetching : (a : Fetching) → fetchingNumber a ≢ number
+  pub count : (a : Count) → countNumber a ≢ number
+  pub figures : (a : Answer) → saidBy a .number ≢ number

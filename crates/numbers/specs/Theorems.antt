@@ -1,5 +1,5 @@
 -- The numbers of the C entries say what Meanings.antt states.
--- Main results: recover-means, encode-means, encode-done, message-means, fetch-means.
+-- Main results: recover-means, encode-means, message-means, fetch-means; never-eleven.
 use mathlib.Core.Path.{_≡_, refl, sym, _∙_, ap}
 use mathlib.Core.Logic.{_↔_, _≢_, _⊎_, inl, inr, ⊎-elim, by-cases}
 use mathlib.Core.List.{List, [], _∷_, List·Memᴰ·head as head, List·Memᴰ·tail as tail}
@@ -8,28 +8,29 @@ use native.Mathlib.Decide.{decLt}
 use native.Mathlib.Omega.{arith}
 use Rattle.math.specs.Members.{_∈_}
 use Rattle.plan.specs.Layout.{layout}
-use Rattle.plan.specs.Plans.{layoutOf}
+use Rattle.plan.specs.Plans.{layoutOf, countNumber}
 use Rattle.plan.specs.declared.Plan.{Plan}
-use Rattle.code.specs.Codewords.{at}
-use Rattle.refusals.specs.Refusals.{numberOf}
-use Rattle.refusals.specs.RefusalLaws.{number-some, number-once, stop-or-pass}
+use Rattle.plan.specs.declared.Count.{Count}
+use Rattle.plan.specs.declared.Count.the-variants.{Is, Not}
+use Rattle.refusals.specs.Refusals.{numberOf, checkNumber}
+use Rattle.refusals.specs.RefusalLaws.{number-some, number-once, not-eleven, check-not-eleven, check-number-zero, check-number-stop, stop-or-pass}
 use Rattle.calls.specs.Calls.{checkOf}
 use Rattle.calls.specs.CallsLaws.{few-marks, few-none, also-few}
 use Rattle.refusals.specs.declared.Refusal.{Refusal}
 use Rattle.refusals.specs.declared.Check.{Check}
 use Rattle.refusals.specs.declared.Check.the-variants.{Pass, Stop}
-use Rattle.answers.specs.Answers.{recoveryNumber, recoveryCount, encodingNumber, readingNumber, fetchingNumber, fetchingCount}
-use Rattle.promises.specs.Promises.{Recovers, recoverLent, Encodes, Reads, messageLent, Fetches, fetchCheck}
-use Rattle.promises.specs.Numbers.{encode-always}
+use Rattle.answers.specs.Answers.{recoveryNumber, recoveryCount, readingNumber, fetchingCount}
+use Rattle.answers.specs.AnswerLaws.{recovery-not-eleven, encoding-not-eleven, reading-not-eleven, fetching-not-eleven}
+use Rattle.promises.specs.Promises.{Recovers, recoverLent, Reads, messageLent, fetchCheck}
 use Rattle.answers.specs.declared.Recovery.{Recovery}
 use Rattle.answers.specs.declared.Recovery.the-variants as recovery
-use Rattle.answers.specs.declared.Encoding.{Encoding}
-use Rattle.answers.specs.declared.Encoding.the-variants as encoding
 use Rattle.answers.specs.declared.Reading.{Reading}
 use Rattle.answers.specs.declared.Reading.the-variants as reading
-use Rattle.answers.specs.declared.Fetching.{Fetching}
+use Rattle.figures.specs.Answers.{saidBy}
+use Rattle.figures.specs.declared.Answer.{Answer}
+use Rattle.figures.specs.declared.Answer.the-variants as answer
 use Rattle.numbers.specs.Entries.{RecoverOut, EncodeOut, MessageOut, FetchOut}
-use Rattle.numbers.specs.Meanings.{RecoverMeans, EncodeMeans, MessageMeans, FetchMeans}
+use Rattle.numbers.specs.Meanings.{RecoverMeans, EncodeMeans, MessageMeans, FetchMeans, Unused}
 
 -- ---- the number of an answer, beside what its call was checked for
 
@@ -121,71 +122,32 @@ module _ {p : Plan} {v m w : List ℕ} {r : Recovery} {v' w' : List ℕ} (f : Re
 pub recover-means : {p : Plan} {v m w : List ℕ} {number count : ℕ} {v' w' : List ℕ} → RecoverOut p v m w number count v' w' → RecoverMeans p v m w number count v' w'
 recover-means h = rw (h .number-is, h .count-is) (recovered-means (h .keeps))
 
--- ---- encode and message_of
+-- ---- encode
 
--- a call that passes is answered `done`, number 0, or `other`, a number past 4; all but `done` keep the buffer
-record Two {A : Type 0} (num : A → ℕ) (done other : A) (k : Check) (b : List ℕ) (r : A) (b' : List ℕ) : Type 0 where
-  stopped : (x : Refusal) → k ≡ Stop x → (num r ≡ numberOf x) × (numberOf x < 4) × (b' ≡ b)
-  ends : k ≡ Pass → (r ≡ done) ⊎ (r ≡ other)
-  keeps : r ≡ other → b' ≡ b
-  zero-is : num done ≡ 0
-  past : 4 < num other
+-- where an answer is done or refused its number is that of what was checked, and says which
+module _ {k : Check} {number : ℕ} (e : number ≡ checkNumber k) where
+  own-stops : (x : Refusal) → (number ≡ numberOf x) ↔ (k ≡ Stop x)
+  own-stops x = (λ q. check-number-stop k x (sym e ∙ q), λ q. e ∙ ap checkNumber q)
 
-module _ {A : Type 0} {num : A → ℕ} {done other : A} {k : Check} {b : List ℕ} {r : A} {b' : List ℕ} (t : Two num done other k b r b') where
-  two-told : Told k (num r)
-  two-told = record {
-    stopped = λ x e. (t .stopped x e .0, omega (arith, t .stopped x e .1));
-    passed = λ q. ⊎-elim (λ e. inl (ap num e ∙ t .zero-is)) (λ e. inr (rw e (t .past))) (t .ends q);
-  }
+  own-passes : (number ≡ 0) ↔ (k ≡ Pass)
+  own-passes = (λ q. check-number-zero k (sym e ∙ q), λ q. e ∙ ap checkNumber q)
 
-  two-in : num r ∈ (0 ∷ 1 ∷ 2 ∷ 3 ∷ num other ∷ [])
-  two-in =
-      told-in two-told (λ x e. in-four (numberOf x) (t .stopped x e .1))
-      (λ q. ⊎-elim (λ e. head (ap num e ∙ t .zero-is)) (λ e. tail (tail (tail (tail (head (ap num e)))))) (t .ends q))
+  own-in : {l : List ℕ} → 0 ∈ l → ((x : Refusal) → k ≡ Stop x → numberOf x ∈ l) → number ∈ l
+  own-in z f = ⊎-elim (λ q. rw (own-passes .1 q) z) (λ s. rw (own-stops (s .0) .1 (s .1)) (f (s .0) (s .1))) (stop-or-pass k)
 
-  two-other : {P : Type 0} → (k ≡ Pass → (r ≡ other) ↔ P) → (num r ≡ num other) ↔ ((k ≡ Pass) × P)
-  two-other f =
-      case-when two-told (inr (t .past))
-      (λ q. (λ e. f q .0 (⊎-elim (λ d. absurd (omega (arith, ap num d, t .zero-is, t .past, e))) (λ o. o) (t .ends q)), λ s. ap num (f q .1 s)))
+pub encode-means : {p : Plan} {d v : List ℕ} {number : ℕ} {v' : List ℕ} → EncodeOut p d v number v' → EncodeMeans p d v number v'
+encode-means {p} {d} {v} h =
+    let f = h .keeps in
+    let own = h .number-is ∙ f .number in
+    record {
+      numbers = own-in own (head refl) (λ x e. in-four (numberOf x) (few-none p (messageLent d v) e));
+      refused-when = own-stops own;
+      zero-when = own-passes own;
+      zero-leaves = λ e. let q = own-passes own .0 e in (f .encoded-to q, f .only q);
+      else-keeps = λ o. ⊎-elim (λ q. absurd (o (own-passes own .1 q))) (λ s. f .refused (s .0) (s .1) .1) (stop-or-pass (checkOf p (messageLent d v) []));
+    }
 
-  two-keeps : num r ≢ 0 → b' ≡ b
-  two-keeps o =
-      ⊎-elim (λ q. ⊎-elim (λ d. absurd (o (ap num d ∙ t .zero-is))) (t .keeps) (t .ends q)) (λ s. t .stopped (s .0) (s .1) .2) (stop-or-pass k)
-
-encoding-ends : (a : Encoding) → ((x : Refusal) → a ≢ encoding.Refused x) → (a ≡ encoding.Encoded) ⊎ (a ≡ encoding.Unsealed)
-encoding-ends encoding.Encoded o = inl refl
-encoding-ends encoding.Unsealed o = inr refl
-encoding-ends (encoding.Refused x) o = absurd (o x refl)
-
-module _ {p : Plan} {d v : List ℕ} {r : Encoding} {v' : List ℕ} (f : Encodes p d v r v') where
-  encode-two : Two encodingNumber encoding.Encoded encoding.Unsealed (checkOf p (messageLent d v) []) v r v'
-  encode-two = record {
-    stopped = λ x e. (ap encodingNumber (f .refused x e .0), few-none p (messageLent d v) e, f .refused x e .1);
-    ends = λ q. encoding-ends r (f .not-refused q);
-    keeps = f .unsealed-keeps;
-    zero-is = refl;
-    past = omega arith;
-  }
-
-  encoded-means : EncodeMeans p d v (encodingNumber r) v'
-  encoded-means =
-      let zero = case-when (two-told encode-two) (inl refl) (f .number) in
-      record {
-        numbers = two-in encode-two;
-        refused-when = stops-when (two-told encode-two);
-        zero-when = zero;
-        zero-leaves = λ e. let s = zero .0 e in f .encoded-to (s .0) (f .encoded-when (s .0) .1 (s .1));
-        eleven-when = two-other encode-two (f .unsealed-when);
-        else-keeps = two-keeps encode-two;
-      }
-
-module _ {p : Plan} {d v : List ℕ} {number : ℕ} {v' : List ℕ} (h : EncodeOut p d v number v') where
-  pub encode-means : EncodeMeans p d v number v'
-  encode-means = rw (h .number-is) (encoded-means (h .keeps))
-
-  -- a message of bytes that is not refused is encoded: 11 never comes
-  pub encode-done : checkOf p (messageLent d v) [] ≡ Pass → ((i : ℕ) → at d i < 256) → number ≡ 0
-  encode-done q bytes = h .number-is ∙ ap encodingNumber (encode-always p d v (h .keeps) q bytes)
+-- ---- message_of
 
 reading-ends : (a : Reading) → ((x : Refusal) → a ≢ reading.Refused x) → (a ≡ reading.Read) ⊎ (a ≡ reading.Crossed)
 reading-ends reading.Read o = inl refl
@@ -193,25 +155,29 @@ reading-ends reading.Crossed o = inr refl
 reading-ends (reading.Refused x) o = absurd (o x refl)
 
 module _ {p : Plan} {v d : List ℕ} {r : Reading} {d' : List ℕ} (f : Reads p v d r d') where
-  read-two : Two readingNumber reading.Read reading.Crossed (checkOf p (messageLent d v) []) d r d'
-  read-two = record {
-    stopped = λ x e. (ap readingNumber (f .refused x e .0), few-none p (messageLent d v) e, f .refused x e .1);
-    ends = λ q. reading-ends r (f .not-refused q);
-    keeps = f .crossed-keeps;
-    zero-is = refl;
-    past = omega arith;
+  -- a call that passes is answered 0 or 5
+  read-ends : {A : Type 0} → checkOf p (messageLent d v) [] ≡ Pass → (r ≡ reading.Read → A) → (r ≡ reading.Crossed → A) → A
+  read-ends q a b = ⊎-elim a b (reading-ends r (f .not-refused q))
+
+  read-told : Told (checkOf p (messageLent d v) []) (readingNumber r)
+  read-told = record {
+    stopped = λ x e. (ap readingNumber (f .refused x e .0), omega (arith, few-none p (messageLent d v) e));
+    passed = λ q. read-ends q (λ e. inl (ap readingNumber e)) (λ e. inr (omega (arith, ap readingNumber e)));
   }
 
   read-means : MessageMeans p v d (readingNumber r) d'
   read-means =
-      let zero = case-when (two-told read-two) (inl refl) (f .number) in
+      let zero = case-when read-told (inl refl) (f .number) in
       record {
-        numbers = two-in read-two;
-        refused-when = stops-when (two-told read-two);
+        numbers = told-in read-told (λ x e. in-four (numberOf x) (few-none p (messageLent d v) e))
+            (λ q. read-ends q (λ e. head (ap readingNumber e)) (λ e. tail (tail (tail (tail (head (ap readingNumber e)))))));
+        refused-when = stops-when read-told;
         zero-when = zero;
         zero-leaves = λ e. let s = zero .0 e in f .read-to (s .0) (f .read-when (s .0) .1 (s .1));
-        five-when = two-other read-two (f .crossed-when);
-        else-keeps = two-keeps read-two;
+        five-when = case-when read-told (inr (omega arith))
+            (λ q. (λ e. read-ends q (λ a. absurd (omega (arith, ap readingNumber a, e))) (f .crossed-when q .0), λ n. ap readingNumber (f .crossed-when q .1 n)));
+        else-keeps = λ o. ⊎-elim (λ q. read-ends q (λ a. absurd (o (ap readingNumber a))) (f .crossed-keeps)) (λ s. f .refused (s .0) (s .1) .1)
+            (stop-or-pass (checkOf p (messageLent d v) []));
       }
 
 pub message-means : {p : Plan} {v d : List ℕ} {number : ℕ} {d' : List ℕ} → MessageOut p v d number d' → MessageMeans p v d number d'
@@ -219,25 +185,41 @@ message-means h = rw (h .number-is) (read-means (h .keeps))
 
 -- ---- fetch
 
-module _ {p : Plan} {m l : List ℕ} {r : Fetching} {l' : List ℕ} (f : Fetches p m l r l') where
-  fetch-few : {x : Refusal} → fetchCheck p m l ≡ Stop x → numberOf x < 5
-  unfolding fetchCheck
-  fetch-few e = also-few p _ m _ e
-
-  fetch-told : Told (fetchCheck p m l) (fetchingNumber r)
-  fetch-told = record {
-    stopped = λ x e. (ap fetchingNumber (f .refused x e .0), fetch-few e);
-    passed = λ q. inl (ap fetchingNumber (f .fetched q .1));
-  }
-
-  fetched-means : FetchMeans p m l (fetchingNumber r) (fetchingCount r) l'
-  fetched-means = record {
-    numbers = told-in fetch-told (λ x e. in-five (numberOf x) (fetch-few e)) (λ q. head (ap fetchingNumber (f .fetched q .1)));
-    refused-when = stops-when fetch-told;
-    refused-leaves = λ x h e. let s = f .refused x (stops-when fetch-told x h .0 e) in (ap fetchingCount (s .0), s .1);
-    zero-when = (λ e. passes-when fetch-told (inl e), λ q. ap fetchingNumber (f .fetched q .1));
-    zero-leaves = λ e. f .listed (passes-when fetch-told (inl e));
-  }
+fetch-few : (p : Plan) (m l : List ℕ) {x : Refusal} → fetchCheck p m l ≡ Stop x → numberOf x < 5
+unfolding fetchCheck
+fetch-few p m l e = also-few p _ m _ e
 
 pub fetch-means : {p : Plan} {m l : List ℕ} {number count : ℕ} {l' : List ℕ} → FetchOut p m l number count l' → FetchMeans p m l number count l'
-fetch-means h = rw (h .number-is, h .count-is) (fetched-means (h .keeps))
+fetch-means {p} {m} {l} h =
+    let f = h .keeps in
+    let own = h .number-is ∙ f .number in
+    record {
+      numbers = own-in own (head refl) (λ x e. in-five (numberOf x) (fetch-few p m l e));
+      refused-when = λ x _. own-stops own x;
+      refused-leaves = λ x _ e. let s = f .refused x (own-stops own x .0 e) in (h .count-is ∙ ap fetchingCount (s .0), s .1);
+      zero-when = own-passes own;
+      zero-leaves = λ e. rw (h .count-is) (f .listed (own-passes own .0 e));
+    }
+
+-- ---- the number that is struck
+
+count-not-eleven : (a : Count) → countNumber a ≢ 11
+count-not-eleven (Is k) e = omega (arith, e)
+count-not-eleven (Not x) e = not-eleven x e
+
+figures-not-eleven : (a : Answer) → saidBy a .number ≢ 11
+figures-not-eleven (answer.Are f) e = omega (arith, e)
+figures-not-eleven (answer.Not x) e = not-eleven x e
+
+-- Document 02, N4: "the number isn't used again"
+pub never-eleven : Unused 11
+never-eleven = record {
+  refusal = not-eleven;
+  check = check-not-eleven;
+  recovery = recovery-not-eleven;
+  encoding = encoding-not-eleven;
+  reading = reading-not-eleven;
+  fetching = fetching-not-eleven;
+  count = count-not-eleven;
+  figures = figures-not-eleven;
+}

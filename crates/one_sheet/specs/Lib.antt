@@ -9,3 +9,4 @@ pub mod SomeRecovery
 pub mod Begins
 pub mod Performed
 pub mod PerformedLaws
+pub mod Struck

@@ -214,38 +214,29 @@ count-passes p m good long spare = sym (passes p (countLent m) m good fits (clea
     fits = unfold lengthsFit countLent layoutOf layout markBytes in simp (eq-eqb (length m) ((p .n * p .t + 7) / 8) long)
 
 -- no other codeword of a plan carries the message
-pub carries-single : (p : Plan) → Valid (layoutOf p) → {w d : List ℕ} → Carries (layoutOf p) w d → Single (λ x. Carries (layoutOf p) x d)
-carries-single p ok {w} {d} a = record {
-  one = w;
-  has = a;
-  only-one = λ x q. ext-getD 0 x w (q .codeword .whole ∙ sym (a .codeword .whole))
-      (λ c h. carried-same (layoutOf p) ok d x w q a c (plan-places p ok (rw (q .codeword .whole) at h)));
-}
+pub carries-only : (p : Plan) → Valid (layoutOf p) → {w d : List ℕ} → Carries (layoutOf p) w d → (x : List ℕ) → Carries (layoutOf p) x d → x ≡ w
+carries-only p ok {w} {d} a x q =
+    ext-getD 0 x w (q .codeword .whole ∙ sym (a .codeword .whole))
+    (λ c h. carried-same (layoutOf p) ok d x w q a c (plan-places p ok (rw (q .codeword .whole) at h)))
 
 pub encodes-refused : (p : Plan) (d v : List ℕ) {x : Refusal} → checkOf p (messageLent d v) [] ≡ Stop x → Encodes p d v (encoding.Refused x) v
 encodes-refused p d v {x} stop = record {
   refused = λ y q. let e : encoding.Refused x ≡ encoding.Refused y = cc in (e, refl);
-  encoded-when = λ q. absurd (not-both q stop);
+  encoded = λ q. absurd (not-both q stop);
   encoded-to = λ q. absurd (not-both q stop);
-  unsealed-when = λ q. absurd (not-both q stop);
-  unsealed-keeps = λ _. refl;
-  not-refused = λ q. absurd (not-both q stop);
-  number = λ q. absurd (not-both q stop);
+  only = λ q. absurd (not-both q stop);
+  number = sym (ap checkNumber stop);
 }
 
 pub encodes-done : (p : Plan) (d v : List ℕ) {v' : List ℕ} → checkOf p (messageLent d v) [] ≡ Pass → Carries (layoutOf p) v' d →
     Encodes p d v encoding.Encoded v'
-encodes-done p d v {v'} pass a =
-    let s = carries-single p (pass-valid p (messageLent d v) [] pass) a in
-    record {
-      refused = λ x q. absurd (not-both pass q);
-      encoded-when = λ _. (λ _. s, λ _. refl);
-      encoded-to = λ _ _. a;
-      unsealed-when = λ _. (λ q. absurd (zero-one (cc)), λ n. absurd (single-not-none s n));
-      unsealed-keeps = λ q. absurd (zero-one (cc));
-      not-refused = λ _ x q. zero-one (cc);
-      number = λ _. (λ _. s, λ _. refl);
-    }
+encodes-done p d v pass a = record {
+  refused = λ x q. absurd (not-both pass q);
+  encoded = λ _. refl;
+  encoded-to = λ _. a;
+  only = λ _. carries-only p (pass-valid p (messageLent d v) [] pass) a;
+  number = sym (ap checkNumber pass);
+}
 
 pub reads-refused : (p : Plan) (v d : List ℕ) {x : Refusal} → checkOf p (messageLent d v) [] ≡ Stop x → Reads p v d (reading.Refused x) d
 reads-refused p v d {x} stop = record {

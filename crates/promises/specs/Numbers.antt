@@ -1,30 +1,28 @@
 -- 01's numbers beside the outcomes that they stand for, and the joins between counts: what an answer's number says.
--- Main results: decided-number, encoded-number, read-number, encode-always, message-count-is.
-use mathlib.Core.Path.{_≡_, refl, sym, _∙_, ap}
-use mathlib.Core.Logic.{_≢_}
-use mathlib.Core.List.{List, [], List·Memᴰ}
+-- Main results: decided-number, encode-always, encoded-number, read-number, message-count-is.
+use mathlib.Core.Path.{_≡_, refl, _∙_, ap}
+use mathlib.Core.Logic.{_↔_, _≢_}
+use mathlib.Core.List.{List, []}
 use Prim.Native.Nat.{ℕ, _-_, _*_, _<_}
 use native.Mathlib.Omega.{arith}
 use lib.ListN.{length}
-use Rattle.math.specs.MembersLaws.{∈-upTo, length-upTo}
+use Rattle.math.specs.MembersLaws.{length-upTo}
 use Rattle.plan.specs.Layout.{Layout, layout, messageCount, divisor}
 use Rattle.plan.specs.Plans.{layoutOf, planCheck}
 use Rattle.plan.specs.PlanLaws.{good-valid, good-bounds}
 use Rattle.plan.specs.declared.Plan.{Plan}
-use Rattle.code.specs.Codewords.{at}
-use Rattle.code.specs.Messages.{Message, Lists}
-use Rattle.code.specs.Theorems.{message-count, carried-once}
+use Rattle.code.specs.Codewords.{Single}
+use Rattle.code.specs.Messages.{Message, Lists, Carries}
+use Rattle.code.specs.Theorems.{message-count}
 use Rattle.code.specs.Laws.Carrying.{lists-unique}
 use Rattle.refusals.specs.Refusals.{numberOf}
 use Rattle.refusals.specs.RefusalLaws.{number-some}
 use Rattle.calls.specs.Calls.{checkOf}
-use Rattle.calls.specs.CallsLaws.{pass-good}
 use Rattle.refusals.specs.declared.Refusal.{Refusal}
 use Rattle.refusals.specs.declared.Refusal.the-variants as refusal
 use Rattle.refusals.specs.declared.Check.the-variants.{Pass}
 use Rattle.answers.specs.Answers.{recoveryNumber, encodingNumber, readingNumber}
-use Rattle.promises.specs.Promises.{Numbered, Decides, EncodedBy, Encodes, ReadBy, Reads, messageLent}
-use Rattle.promises.specs.Building.{message-lengths}
+use Rattle.promises.specs.Promises.{Numbered, Decides, Encodes, ReadBy, Reads, messageLent}
 use Rattle.answers.specs.declared.Recovery.{Recovery}
 use Rattle.answers.specs.declared.Recovery.the-variants.{Recovered, Crossed, Loose, Refused}
 use Rattle.answers.specs.declared.Encoding.{Encoding}
@@ -61,15 +59,14 @@ decided-number {r = r} d =
       loose-when = (λ e. d .loose-when .0 (number-loose r (d .not-refused) e), λ s. ap recoveryNumber (d .loose-when .1 s .1));
     }
 
-encoded-zero : (r : Encoding) → encodingNumber r ≡ 0 → r ≡ encoding.Encoded
-encoded-zero encoding.Encoded e = refl
-encoded-zero encoding.Unsealed e = absurd (omega (arith, e))
-encoded-zero (encoding.Refused x) e = absurd (omega (arith, number-some x, e))
+module _ (p : Plan) (d v : List ℕ) {r : Encoding} {v' : List ℕ} (e : Encodes p d v r v') (pass : checkOf p (messageLent d v) [] ≡ Pass) where
+  -- sealing never fails: a call that is not refused is answered Encoded, and no codeword but the block that is left carries its message
+  pub encode-always : (r ≡ encoding.Encoded) × Single (λ x. Carries (layoutOf p) x d)
+  encode-always = (e .encoded pass, record { one = v'; has = e .encoded-to pass; only-one = e .only pass })
 
--- encode's number is 0 exactly when one codeword carries the message
-pub encoded-number : (p : Plan) (d v : List ℕ) {r : Encoding} {v' : List ℕ} → Encodes p d v r v' → checkOf p (messageLent d v) [] ≡ Pass →
-    EncodedBy p d (encodingNumber r)
-encoded-number p d v {r} e pass = (λ z. e .encoded-when pass .0 (encoded-zero r z), λ s. ap encodingNumber (e .encoded-when pass .1 s))
+  -- encode's number is 0 exactly when one codeword carries the message
+  pub encoded-number : (encodingNumber r ≡ 0) ↔ Single (λ x. Carries (layoutOf p) x d)
+  encoded-number = (λ _. encode-always .1, λ _. ap encodingNumber (encode-always .0))
 
 read-zero : (r : Reading) → readingNumber r ≡ 0 → r ≡ reading.Read
 read-zero reading.Read e = refl
@@ -82,28 +79,15 @@ pub read-number : (p : Plan) (v d : List ℕ) {r : Reading} {d' : List ℕ} → 
 read-number p v d {r} e pass = (λ z. e .read-when pass .0 (read-zero r z), λ s. ap readingNumber (e .read-when pass .1 s))
 
 -- the message count of a plan is the number of its message places
-counted : (p : Plan) → length (layoutOf p .sections) * layoutOf p .t - (2 * layoutOf p .t - divisor (layoutOf p)) ≡ messageCount (layoutOf p)
+pub counted : (p : Plan) → length (layoutOf p .sections) * layoutOf p .t - (2 * layoutOf p .t - divisor (layoutOf p)) ≡ messageCount (layoutOf p)
 unfolding layoutOf layout messageCount
 counted p = rw (length-upTo (p .n))
 
-some-section : (p : Plan) → planCheck p ≡ Pass → 0 < length (layoutOf p .sections)
+pub some-section : (p : Plan) → planCheck p ≡ Pass → 0 < length (layoutOf p .sections)
 unfolding layoutOf layout
 some-section p good = rw (length-upTo (p .n)) (omega (arith, good-bounds p good .n-min))
-
-all-sections : (p : Plan) (j : ℕ) → j < layoutOf p .n → List·Memᴰ j (layoutOf p .sections)
-unfolding layoutOf layout
-all-sections p j h = ∈-upTo h
 
 pub message-count-is : (p : Plan) → planCheck p ≡ Pass → (l : List ℕ) → Lists (Message (layoutOf p)) l → length l ≡ messageCount (layoutOf p)
 message-count-is p good l h =
     let m = message-count (layoutOf p) (good-valid p good) (some-section p good) in
     ap length (lists-unique h (m .1)) ∙ m .2 ∙ counted p
-
--- sealing never fails: a call that is not refused is answered Encoded
-pub encode-always : (p : Plan) (d v : List ℕ) {r : Encoding} {v' : List ℕ} → Encodes p d v r v' → checkOf p (messageLent d v) [] ≡ Pass →
-    ((i : ℕ) → at d i < 256) → r ≡ encoding.Encoded
-encode-always p d v e pass bytes =
-    let good = pass-good p (messageLent d v) [] pass in
-    e .encoded-when pass .1
-    (carried-once (layoutOf p) (good-valid p good) (all-sections p) (some-section p good) d
-    (message-lengths p d v pass .1 ∙ sym (counted p)) bytes)

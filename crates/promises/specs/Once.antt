@@ -1,6 +1,6 @@
 -- The promises fix everything: two outcomes that keep the same promise on the same input are equal. No bound on any entry of a buffer is needed.
--- That an answer to a call that passes is no refusal follows from the other fields; these laws say so and do not use `not-refused`.
--- Main results: recovers-once, encodes-once, reads-once, fetches-once, fetches-number; decides-not-refused, encodes-not-refused, reads-not-refused.
+-- That an answer to a call that passes is no refusal follows from the other fields; these laws say so and do not use `not-refused`. Nor do those on numbers use `number`.
+-- Main results: recovers-once, encodes-once, reads-once, fetches-once; decides-not-refused, reads-not-refused; encodes-number, fetches-number.
 use mathlib.Core.Path.{_≡_, refl, sym, _∙_, ap}
 use mathlib.Core.Logic.{_≢_, ⊎-elim}
 use mathlib.Core.List.{List, []}
@@ -9,7 +9,6 @@ use Rattle.plan.specs.Layout.{Layout, Valid}
 use Rattle.plan.specs.Plans.{layoutOf}
 use Rattle.plan.specs.declared.Plan.{Plan}
 use Rattle.code.specs.Codewords.{Agrees, Single, TwoOrMore, None}
-use Rattle.code.specs.Messages.{Carries}
 use Rattle.code.specs.Theorems.{forest-or-cycle, forest-unique, two, carries-one, fetch-bits-once}
 use Rattle.code.specs.Laws.Forest.{Erased}
 use Rattle.code.specs.Laws.MarksLaws.{erasures-erased}
@@ -26,8 +25,8 @@ use Rattle.answers.specs.declared.Reading.{Reading}
 use Rattle.answers.specs.declared.Reading.the-variants as reading
 use Rattle.answers.specs.declared.Fetching.{Fetching}
 use Rattle.answers.specs.declared.Fetching.the-variants.{Fetched, Refused as Refusing}
-use Rattle.answers.specs.Answers.{fetchingNumber, fetchingCount}
-use Rattle.refusals.specs.Refusals.{checkNumber}
+use Rattle.answers.specs.Answers.{encodingNumber, fetchingNumber, fetchingCount}
+use Rattle.refusals.specs.Refusals.{numberOf, checkNumber}
 use Rattle.promises.specs.Promises.{Decides, Recovers, recoverLent, Encodes, Reads, messageLent, Fetches, fetchCheck}
 use Rattle.promises.specs.Building
 use Rattle.promises.specs.Theorems.{decides-same}
@@ -82,31 +81,24 @@ stop-once : (k : Check) {A : Type 0} {refused : Refusal → A} {b : List ℕ} {r
 stop-once Pass f g pass = pass refl
 stop-once (Stop x) f g pass = (f x refl .0 ∙ sym (g x refl .0), f x refl .1 ∙ sym (g x refl .1))
 
+-- 01's number of an answer that is done or refused follows from these cases
+number-by : (k : Check) {A : Type 0} (num : A → ℕ) {refused : Refusal → A} {r : A} {b b' : List ℕ} → ((x : Refusal) → num (refused x) ≡ numberOf x) →
+    ((x : Refusal) → k ≡ Stop x → (r ≡ refused x) × (b' ≡ b)) → (k ≡ Pass → num r ≡ 0) → num r ≡ checkNumber k
+number-by Pass num n stop pass = pass refl
+number-by (Stop x) num n stop pass = ap num (stop x refl .0) ∙ n x
+
 -- ---- encode
-
-module _ (p : Plan) (d v : List ℕ) (pass : checkOf p (messageLent d v) [] ≡ Pass) where
-  -- a codeword that carries the message is the only one: so one does or none
-  pub encodes-not-refused : {r : Encoding} {v' : List ℕ} → Encodes p d v r v' → (x : Refusal) → r ≢ encoding.Refused x
-  encodes-not-refused {r} f x e =
-      let none : None (λ y. Carries (layoutOf p) y d) = λ y a.
-      let q = f .encoded-when pass .1 (Building.carries-single p (Building.pass-valid p (messageLent d v) [] pass) a) in
-      Building.zero-one (cc) in
-      let q = f .unsealed-when pass .1 none in
-      Building.zero-one (cc)
-
-  encodes-pass : (r : Encoding) {s : Encoding} {v' x' : List ℕ} → Encodes p d v r v' → Encodes p d v s x' → (r ≡ s) × (v' ≡ x')
-  encodes-pass encoding.Encoded f g =
-      let one = f .encoded-when pass .0 refl in
-      let e = g .encoded-when pass .1 one in
-      (sym e, one .only-one _ (f .encoded-to pass refl) ∙ sym (one .only-one _ (g .encoded-to pass e)))
-  encodes-pass encoding.Unsealed f g =
-      let e = g .unsealed-when pass .1 (f .unsealed-when pass .0 refl) in
-      (sym e, f .unsealed-keeps refl ∙ sym (g .unsealed-keeps e))
-  encodes-pass (encoding.Refused x) f g = absurd (encodes-not-refused f x refl)
 
 -- the answer and the block
 pub encodes-once : (p : Plan) (d v : List ℕ) {r s : Encoding} {v' x' : List ℕ} → Encodes p d v r v' → Encodes p d v s x' → (r ≡ s) × (v' ≡ x')
-encodes-once p d v {r} f g = stop-once (checkOf p (messageLent d v) []) (f .refused) (g .refused) (λ pass. encodes-pass p d v pass r f g)
+encodes-once p d v {v' = v'} f g =
+    stop-once (checkOf p (messageLent d v) []) (f .refused) (g .refused)
+    (λ pass. (f .encoded pass ∙ sym (g .encoded pass), g .only pass v' (f .encoded-to pass)))
+
+pub encodes-number : (p : Plan) (d v : List ℕ) {r : Encoding} {v' : List ℕ} →
+    ((x : Refusal) → checkOf p (messageLent d v) [] ≡ Stop x → (r ≡ encoding.Refused x) × (v' ≡ v)) →
+    (checkOf p (messageLent d v) [] ≡ Pass → r ≡ encoding.Encoded) → encodingNumber r ≡ checkNumber (checkOf p (messageLent d v) [])
+encodes-number p d v stop pass = number-by (checkOf p (messageLent d v) []) encodingNumber (λ x. refl) stop (λ q. ap encodingNumber (pass q))
 
 -- ---- message_of
 
@@ -144,11 +136,6 @@ fetches-once p m l {r} {s} f g =
     let e = fetch-bits-once (f .listed pass) (g .listed pass) in
     (a ∙ ap Fetched (sym (ap fetchingCount a) ∙ e .1 ∙ ap fetchingCount b) ∙ sym b, e .0))
 
--- 01's number of the answer follows from the cases
 pub fetches-number : (p : Plan) (m l : List ℕ) {r : Fetching} {l' : List ℕ} → ((x : Refusal) → fetchCheck p m l ≡ Stop x → (r ≡ Refusing x) × (l' ≡ l)) →
     (fetchCheck p m l ≡ Pass → (z : ℕ) × (r ≡ Fetched z)) → fetchingNumber r ≡ checkNumber (fetchCheck p m l)
-fetches-number p m l stop pass =
-    ⊎-elim
-    (λ q. ap fetchingNumber (pass q .1) ∙ sym (ap checkNumber q))
-    (λ s. ap fetchingNumber (stop (s .0) (s .1) .0) ∙ sym (ap checkNumber (s .1)))
-    (stop-or-pass (fetchCheck p m l))
+fetches-number p m l stop pass = number-by (fetchCheck p m l) fetchingNumber (λ x. refl) stop (λ q. ap fetchingNumber (pass q .1))

@@ -77,10 +77,7 @@ pub record Recovers (p : Plan) (v m w : List ℕ) (r : Recovery) (v' w' : List �
   pub refused : (x : Refusal) → checkOf p (recoverLent v m w) m ≡ Stop x → (r ≡ Refused x) × (v' ≡ v) × (w' ≡ w)
   pub passed : checkOf p (recoverLent v m w) m ≡ Pass → Decides (layoutOf p) (erasures (layoutOf p) m) v r v' w'
 
--- 01's number of encode's answer, and of message_of's: success is 0
-abbrev pub EncodedBy : Plan → List ℕ → ℕ → Type 0
-EncodedBy p d number = (number ≡ 0) ↔ Single (λ x. Carries (layoutOf p) x d)
-
+-- 01's number of message_of's answer: success is 0
 abbrev pub ReadBy : Plan → List ℕ → ℕ → Type 0
 ReadBy p v number = (number ≡ 0) ↔ Codeword (layoutOf p) v
 
@@ -88,15 +85,13 @@ ReadBy p v number = (number ≡ 0) ↔ Codeword (layoutOf p) v
 unfoldable pub messageLent : List ℕ → List ℕ → Lent
 messageLent d v = record { block = Of (length v); marks = Unlent; witness = Unlent; message = Of (length d) }
 
--- encode: "Sealing gives the one codeword that carries the data"; 11 exactly when none does, and the block is kept
+-- encode: "Sealing gives the one codeword that carries the data"; document 02, N4: "the check places can always be worked out", so a call that nothing refuses is done
 pub record Encodes (p : Plan) (d v : List ℕ) (r : Encoding) (v' : List ℕ) : Type 0 where
   pub refused : (x : Refusal) → checkOf p (messageLent d v) [] ≡ Stop x → (r ≡ encoding.Refused x) × (v' ≡ v)
-  pub encoded-when : checkOf p (messageLent d v) [] ≡ Pass → (r ≡ encoding.Encoded) ↔ Single (λ x. Carries (layoutOf p) x d)
-  pub encoded-to : checkOf p (messageLent d v) [] ≡ Pass → r ≡ encoding.Encoded → Carries (layoutOf p) v' d
-  pub unsealed-when : checkOf p (messageLent d v) [] ≡ Pass → (r ≡ encoding.Unsealed) ↔ None (λ x. Carries (layoutOf p) x d)
-  pub unsealed-keeps : r ≡ encoding.Unsealed → v' ≡ v
-  pub not-refused : checkOf p (messageLent d v) [] ≡ Pass → (x : Refusal) → r ≢ encoding.Refused x
-  pub number : checkOf p (messageLent d v) [] ≡ Pass → EncodedBy p d (encodingNumber r)
+  pub encoded : checkOf p (messageLent d v) [] ≡ Pass → r ≡ encoding.Encoded
+  pub encoded-to : checkOf p (messageLent d v) [] ≡ Pass → Carries (layoutOf p) v' d
+  pub only : checkOf p (messageLent d v) [] ≡ Pass → (x : List ℕ) → Carries (layoutOf p) x d → x ≡ v'
+  pub number : encodingNumber r ≡ checkNumber (checkOf p (messageLent d v) [])
 
 -- message_of: "every codeword is carried by one row of data, which reading hands back"; "a block that is no codeword is refused as crossed,
 -- with no list, and the data buffer stays"

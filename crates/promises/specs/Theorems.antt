@@ -1,5 +1,5 @@
 -- What follows from the promises of recover, encode, message_of and fetch, whatever code keeps them.
--- Main results: answers-one, shown-cycle-unique, influences-nothing, loose-list-one, pair-never-loose, pair-some-loose, read-of-encoded,
+-- Main results: answers-one, shown-cycle-unique, influences-nothing, loose-list-one, pair-never-loose, pair-some-loose, sealable, read-of-encoded,
 -- encode-of-read, fetched-never-loose.
 use mathlib.Core.Path.{_≡_, refl, sym, _∙_, ap, subst}
 use mathlib.Core.Logic.{_≢_, _⊎_, ⊎-elim, by-cases}
@@ -11,7 +11,7 @@ use lib.ListN.{length, replicate, length-replicate}
 use Rattle.math.specs.Members.{_∈_}
 use Rattle.math.specs.MembersLaws.{∈-upTo, ∈-isIn, decIn}
 use Rattle.math.specs.SumsLaws.{xorOver-ext}
-use Rattle.plan.specs.Layout.{Layout, Valid, layout}
+use Rattle.plan.specs.Layout.{Layout, Valid, layout, messageCount}
 use Rattle.plan.specs.Plans.{layoutOf, planCheck}
 use Rattle.plan.specs.PlanLaws.{good-valid}
 use Rattle.plan.specs.declared.Plan.{Plan}
@@ -19,9 +19,10 @@ use Rattle.code.specs.Codewords.{at, syndrome, Agrees, Single, TwoOrMore, None,
 use Rattle.code.specs.Marks.{mark, markBytes, NoSpare, erasures}
 use Rattle.code.specs.Cycles.{Cycle}
 use Rattle.code.specs.Components.{imbalance, Inconsistent}
+use Rattle.code.specs.Messages.{Carries}
 use Rattle.code.specs.Places.{places}
 use Rattle.code.specs.Figures.{Pair, pairNumber}
-use Rattle.code.specs.Theorems.{forest-or-cycle, cycle-unique, carries-one, pair-never, pair-some, fetched-never}
+use Rattle.code.specs.Theorems.{forest-or-cycle, cycle-unique, carried-once, carries-one, pair-never, pair-some, fetched-never}
 use Rattle.code.specs.Laws.Forest.{Erased, Forest, above}
 use Rattle.code.specs.Laws.Balance.{blank-outside}
 use Rattle.code.specs.Laws.Basics.{places-∈, syndrome-ext}
@@ -45,6 +46,7 @@ use Rattle.answers.specs.declared.Fetching.the-variants.{Fetched, Refused as Un
 use Rattle.math.specs.Padded.{padded}
 use Rattle.promises.specs.Promises.{Decides, Recovers, recoverLent, Encodes, Reads, messageLent, Fetches, fetchCheck}
 use Rattle.promises.specs.Building
+use Rattle.promises.specs.Numbers.{counted, some-section}
 use Rattle.promises.specs.MarksOf.{marksOf, length-marksOf, byte-marksOf, erasures-marksOf, spare-marksOf}
 
 -- exactly one of four
@@ -260,11 +262,21 @@ pair-some-loose p good i j h g n =
       loose = λ w f pass. f .passed pass .loose-when .1 (subst (λ E. TwoOrMore (Agrees L E (replicate (p .n * p .t) 0))) (sym e) (s .4));
     }
 
+all-sections : (p : Plan) (j : ℕ) → j < layoutOf p .n → j ∈ layoutOf p .sections
+unfolding layoutOf layout
+all-sections p j h = ∈-upTo h
+
+-- Document 02, N4: "the check places can always be worked out, for every accepted plan and all data": exactly one codeword carries the data
+pub sealable : (p : Plan) → planCheck p ≡ Pass → (d : List ℕ) → length d ≡ messageCount (layoutOf p) → ((i : ℕ) → at d i < 256) →
+    Single (λ x. Carries (layoutOf p) x d)
+sealable p good d long bytes =
+    carried-once (layoutOf p) (good-valid p good) (all-sections p) (some-section p good) d (long ∙ sym (counted p)) bytes
+
 -- reading an encoded block gives the message back
 pub read-of-encoded : (p : Plan) (d v e : List ℕ) {v' e' : List ℕ} {r : Reading} → Encodes p d v encoding.Encoded v' → Reads p v' e r e' →
     checkOf p (messageLent d v) [] ≡ Pass → checkOf p (messageLent e v') [] ≡ Pass → (r ≡ reading.Read) × (e' ≡ d)
 read-of-encoded p d v e {v'} {e'} f g pass pass' =
-    let a = f .encoded-to pass refl in
+    let a = f .encoded-to pass in
     let q = g .read-when pass' .1 (a .codeword) in
     let one = carries-one (layoutOf p) (Building.pass-valid p (messageLent d v) [] pass) v' (a .codeword) in
     (q, one .only-one e' (g .read-to pass' q) ∙ sym (one .only-one d a))
@@ -272,11 +284,7 @@ read-of-encoded p d v e {v'} {e'} f g pass pass' =
 -- encoding what was read gives the block back
 pub encode-of-read : (p : Plan) (v d x : List ℕ) {d' x' : List ℕ} {r : Encoding} → Reads p v d reading.Read d' → Encodes p d' x r x' →
     checkOf p (messageLent d v) [] ≡ Pass → checkOf p (messageLent d' x) [] ≡ Pass → (r ≡ encoding.Encoded) × (x' ≡ v)
-encode-of-read p v d x {d'} {x'} f g pass pass' =
-    let a = f .read-to pass refl in
-    let one = Building.carries-single p (Building.pass-valid p (messageLent d v) [] pass) a in
-    let q = g .encoded-when pass' .1 one in
-    (q, one .only-one x' (g .encoded-to pass' q) ∙ sym (one .only-one v a))
+encode-of-read p v d x f g pass pass' = (g .encoded pass', sym (g .only pass' v (f .read-to pass refl)))
 
 -- an answer that lists comes of a call that passes
 fetched-passed : (p : Plan) (m l : List ℕ) {z : ℕ} {l' : List ℕ} → Fetches p m l (Fetched z) l' → fetchCheck p m l ≡ Pass

@@ -4,11 +4,11 @@ use mathlib.Core.Bool.{Bool, true, false, cond}
 use Prim.Native.Nat.{ℕ}
 use lib.Dec.{leb}
 use Rattle.refusals.specs.declared.Refusal.{Refusal}
-use Rattle.refusals.specs.declared.Refusal.the-variants.{Size, Shift, Length, Spare, Crossed, Loose, Command, Short, Early, Family, Unsealed}
+use Rattle.refusals.specs.declared.Refusal.the-variants.{Size, Shift, Length, Spare, Crossed, Loose, Command, Short, Early, Family}
 use Rattle.refusals.specs.declared.Check.{Check}
 use Rattle.refusals.specs.declared.Check.the-variants.{Pass, Stop}
 
--- the table's numbers
+-- the table's numbers. Document 02, N4: "strike number 11 from the table"; "the number isn't used again" (not-eleven).
 abbrev pub numberOf : Refusal → ℕ
 numberOf Size = 1
 numberOf Shift = 2
@@ -20,7 +20,6 @@ numberOf Command = 7
 numberOf Short = 8
 numberOf Early = 9
 numberOf Family = 10
-numberOf Unsealed = 11
 
 -- "Success is 0."
 abbrev pub checkNumber : Check → ℕ
@@ -38,7 +37,7 @@ abbrev pub _then_ : Check → Check → Check
 Pass then c = c
 Stop x then c = Stop x
 
--- the place of a refusal in the order of tests: "Order 1, 2, 3, 4; then 5 and 6 exclude each other. 10 follows 1, and 11 follows 3. In a job: 7, 8, 9, then the others."
+-- the place of a refusal in the order of tests: "Order 1, 2, 3, 4; then 5 and 6 exclude each other. 10 follows 1 .. In a job: 7, 8, 9, then the others."
 abbrev pub rankOf : Refusal → ℕ
 rankOf Command = 0
 rankOf Short = 1
@@ -47,10 +46,9 @@ rankOf Size = 3
 rankOf Family = 4
 rankOf Shift = 5
 rankOf Length = 6
-rankOf Unsealed = 7
-rankOf Spare = 8
-rankOf Crossed = 9
-rankOf Loose = 10
+rankOf Spare = 7
+rankOf Crossed = 8
+rankOf Loose = 9
 
 -- whichever of two is asked first
 abbrev pub firstOf : Refusal → Refusal → Refusal

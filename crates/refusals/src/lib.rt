@@ -15,7 +15,6 @@ pub enum Refusal {
     Short,
     Early,
     Family,
-    Unsealed,
 }
 
 pub enum Check {
@@ -38,7 +37,6 @@ impl Refusal {
             Refusal::Short => 8,
             Refusal::Early => 9,
             Refusal::Family => 10,
-            Refusal::Unsealed => 11,
         }
     }
 
@@ -54,10 +52,9 @@ impl Refusal {
             Refusal::Family => 4,
             Refusal::Shift => 5,
             Refusal::Length => 6,
-            Refusal::Unsealed => 7,
-            Refusal::Spare => 8,
-            Refusal::Crossed => 9,
-            Refusal::Loose => 10,
+            Refusal::Spare => 7,
+            Refusal::Crossed => 8,
+            Refusal::Loose => 9,
         }
     }
 

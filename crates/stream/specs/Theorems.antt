@@ -1,7 +1,7 @@
 -- What a program that does what it is asked has written is the sheet of what it has read; and every call goes on.
--- Main results: trace-sheet, trace-begins, trace-stands, trace-passes; answer-asked, always-room, always-forward, read-ends, full-lost; works-further.
+-- Main results: trace-sheet, trace-begins, trace-stands, trace-passes; answer-asked, always-room, always-forward, read-ends, full-lost; works-further; ask-not-eleven.
 use mathlib.Core.Path.{_≡_, refl, sym, _∙_, ap, subst}
-use mathlib.Core.Logic.{_⊎_, inl, inr, ⊎-elim}
+use mathlib.Core.Logic.{_≢_, _⊎_, inl, inr, ⊎-elim}
 use mathlib.Core.Bool.{Bool, true, false, cond}
 use mathlib.Core.List.{List, [], _++_, append-assoc, append-nil}
 use Prim.Native.Nat.{ℕ, _-_, _≤_, _<_, min}
@@ -11,7 +11,7 @@ use lib.IntN.{ℤ, pos}
 use lib.Signed.{ltZ}
 use borrow.Author.Tests.{ltb-true, ltb-false, lt-ltb, le-ltb}
 use lib.ListN.{length, getD, take, drop, length-drop, length-append}
-use Rattle.refusals.specs.RefusalLaws.{stop-or-pass}
+use Rattle.refusals.specs.RefusalLaws.{not-eleven, stop-or-pass}
 use Rattle.refusals.specs.declared.Refusal.{Refusal}
 use Rattle.refusals.specs.declared.Check.the-variants as check
 use Rattle.commands.specs.Commands.{longest}
@@ -25,7 +25,7 @@ use Rattle.one_sheet.specs.Performed.{Performed, none, first}
 use Rattle.one_sheet.specs.PerformedLaws.{performed-inside, performed-further}
 use Rattle.reading.specs.Cursors.{hand, carriedOf}
 use Rattle.stream.specs.Course.{Waits}
-use Rattle.stream.specs.Streams.{streamCheck, askOf, phaseAsk, goes, asksRead, withCursor, tidy, tidyInput, lostOf, takenOf, broughtOf}
+use Rattle.stream.specs.Streams.{streamCheck, askOf, askNumber, phaseAsk, goes, asksRead, withCursor, tidy, tidyInput, lostOf, takenOf, broughtOf}
 use Rattle.stream.specs.Works.{Went, Works, Advances}
 use Rattle.stream.specs.WorksLaws.{Ready, stream-ready, ready-passes}
 use Rattle.stream.specs.Trace.{Trace, Later, Stands, Roomy}
@@ -194,3 +194,12 @@ full-lost s i got h = rw (le-ltb (s .cursor .end) (length i) h) (same (ltZ got (
 pub works-further : {s : Stream} {v m l i : List ℕ} {t u : Stream} {v' m' l' w n k : List ℕ} → streamCheck s v m l i ≡ check.Pass → (a : Went s v m l i t v' m' l') (b : Went s v m l i u w n k) → a .used ≤ b .used →
     (rest : List ℕ) × (b .text ≡ a .text ++ rest) × Performed (hand (s .cursor) i) (t .held) v' m' (a .used) rest (u .held) w n (b .used)
 works-further {s} {v} {m} {l} {i} pass a b h = performed-further (stream-ready s v m l i pass .kept) (omega arith) h (a .performed) (b .performed)
+
+-- what is asked for has no number that is struck from the table (document 02, N4)
+pub ask-not-eleven : (a : Ask) → askNumber a ≢ 11
+ask-not-eleven ask.Read e = omega (arith, e)
+ask-not-eleven ask.Write e = omega (arith, e)
+ask-not-eleven ask.Closed e = omega (arith, e)
+ask-not-eleven ask.Past e = omega (arith, e)
+ask-not-eleven ask.Lost e = omega (arith, e)
+ask-not-eleven (ask.Bad x) e = not-eleven x e

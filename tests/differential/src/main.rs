@@ -24,7 +24,7 @@ const SEED: u64 = 20_261_115;
 const MARGIN: usize = 16;
 
 /// Every outcome that must be met: entry, numbers.
-const OUTCOMES: [(&str, &[u8]); 15] = [
+const OUTCOMES: [(&str, &[u8]); 17] = [
     ("plan_of", &[0, 1, 2]),
     ("straight", &[0, 1, 10]),
     ("powers", &[0, 1, 10]),
@@ -40,11 +40,14 @@ const OUTCOMES: [(&str, &[u8]); 15] = [
     ("fetch", &[0, 1, 2, 3, 4]),
     ("fetch, empty", &[0]),
     ("fetch, all", &[0]),
+    // messages of any symbols, of 0 alone and of 255 alone
     ("encode", &[0, 1, 2, 3]),
+    ("encode, 0", &[0]),
+    ("encode, 255", &[0]),
     ("message_of", &[0, 1, 2, 3, 5]),
 ];
-/// Cases of each outcome at least; cases of recovered, crossed and loose, of lists with places and of empty ones, at each size at least; and cases in
-/// all at least.
+/// Cases of each outcome at least, of each kind of message that is encoded at each size; cases of recovered, crossed and loose, of lists with places and
+/// of empty ones, at each size at least; and cases in all at least.
 const EACH: usize = 300;
 const EACH_SIZE: usize = 100;
 const IN_ALL: usize = 200_000;
@@ -252,7 +255,9 @@ impl Run {
 
     fn encode(&mut self, plan: &Plan, code: Result<&Code, u8>, size: usize, message: &[u8], block: &[u8]) {
         let wanted = reference::encode(code, message, block);
-        self.written("encode", plan, size, sys::fumizhaki_encode, Plan::encode, wanted, message, block);
+        let all = |symbol: u8| wanted.number == 0 && message.iter().all(|x| *x == symbol);
+        let entry = if all(0) { "encode, 0" } else if all(255) { "encode, 255" } else { "encode" };
+        self.written(entry, plan, size, sys::fumizhaki_encode, Plan::encode, wanted, message, block);
     }
 
     fn message_of(&mut self, plan: &Plan, code: Result<&Code, u8>, size: usize, block: &[u8], message: &[u8]) {
@@ -282,6 +287,10 @@ impl Run {
         let built = Code::of(&plan);
         let code = Ok(&built);
         self.plan_alone(&plan, code, size);
+        for symbol in [0, 255] {
+            let block = self.rng.bytes(built.places());
+            self.encode(&plan, code, size, &vec![symbol; built.message_places.len()], &block);
+        }
         let mut codeword = vec![0; built.places()];
         for turn in 0..turns {
             if turn % 3 == 0 {
@@ -440,7 +449,7 @@ impl Run {
         }
         self.fetch_at_bounds();
         self.rings_at_bounds();
-        for (size, plans, turns) in [(0, 4_000, 12), (1, 4_000, 15), (2, 900, 12), (3, 300, 12), (4, 240, 12)] {
+        for (size, plans, turns) in [(0, 4_000, 12), (1, 4_000, 15), (2, 900, 12), (3, 300, 12), (4, 300, 12)] {
             for _ in 0..plans {
                 self.accepted(size, turns);
             }
@@ -469,7 +478,8 @@ impl Run {
                 let sum: usize = c.iter().sum();
                 total += sum;
                 let decided = entry == "recover" && [0, 5, 6].contains(number) || ["fetch", "fetch, empty"].contains(&entry) && *number == 0;
-                let few = sum < EACH || decided && c[..NO_PLAN].iter().any(|x| *x < EACH_SIZE);
+                let each_size = if entry.starts_with("encode") && *number == 0 { EACH } else if decided { EACH_SIZE } else { 0 };
+                let few = sum < EACH || c[..NO_PLAN].iter().any(|x| *x < each_size);
                 enough &= !few;
                 line(entry, &number.to_string(), c.map(|x| x.to_string()), &format!("{sum}{}", if few { " TOO FEW" } else { "" }));
             }

@@ -19,17 +19,4 @@ returns-2 : tie.Need-returns-2
 returns-2 c = encodes-refused _ _ _ (sym (c .before .before .before .before .check .ensures .answer) ∙ c .before .x .given .1)
 
 pub encode-spec : {M : Type 1} → statement M
-encode-spec =
-    tie.close
-    (tie.spec
-    (λ c. search needs)
-    (λ c κs. search needs)
-    (λ c. search needs)
-    (λ c. search needs)
-    (λ c. search needs)
-    seal-requires
-    (λ c. search needs)
-    same-length
-    returns
-    (λ c. search needs)
-    returns-2)
+encode-spec = tie.close (tie.spec (λ c. search needs) (λ c κs. search needs) (λ c. search needs) (λ c. search needs) (λ c. search needs) seal-requires (λ c. search needs) same-length returns (λ c. search needs) returns-2)
