@@ -279,7 +279,7 @@ impl Plan {
         done(unsafe { sys::fumizhaki_fetch(*self, marks.as_ptr(), marks.len(), list.as_mut_ptr(), list.len(), &mut count) }).map(|()| count)
     }
 
-    /// Writes to `block` the one codeword that carries `message`, which there is for every message; refusals 1 to 3 leave `block` as it was.
+    /// Writes to `block` the one codeword that carries `message`. There is one for every message. Refusals 1 to 3 leave `block` as it was.
     pub fn encode(&self, message: &[u8], block: &mut [u8]) -> Result<(), Refusal> {
         done(unsafe { sys::fumizhaki_encode(*self, message.as_ptr(), message.len(), block.as_mut_ptr(), block.len()) })
     }

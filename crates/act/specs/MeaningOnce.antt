@@ -16,7 +16,7 @@ use Rattle.code.specs.FiguresOnce.{figures-unique}
 use Rattle.code.specs.Laws.Carrying.{lists-unique}
 use Rattle.code.specs.Laws.MarksLaws.{erasures-erased}
 use Rattle.code.specs.Theorems.{fetch-list-once}
-use Rattle.promises.specs.Building.{carries-only}
+use Rattle.promises.specs.Building.{no-other-carries}
 use Rattle.promises.specs.Once.{decides-once}
 use Rattle.answers.specs.declared.Recovery.{Recovery}
 use Rattle.answers.specs.declared.Recovery.the-variants as recovery
@@ -101,7 +101,7 @@ sealing-once : {s a b : State} {x y : List ℕ} → planCheck (s .plan) ≡ Pass
 sealing-once {s} {a} {b} {x} {y} good p q =
     let e : p .places ≡ q .places = lists-unique (p .message-places) (q .message-places) in
     let f : p .block ≡ q .block =
-    carries-only (s .plan) (good-valid (s .plan) good)
+    no-other-carries (s .plan) (good-valid (s .plan) good)
     (subst (λ l. Carries (layoutOf (s .plan)) (q .block) (map (at (s .block)) l)) (sym e) (q .carries)) (p .block) (p .carries) in (
       p .state ∙ ap (λ v. withBlock s v (replicate (markBytes (layoutOf (s .plan))) 0)) f ∙ sym (q .state),
       p .says ∙ ap (λ l. line sealedWord (length l ∷ [])) e ∙ sym (q .says),

@@ -1,12 +1,12 @@
 -- The parts of the answer put together.
--- Main results: pair-least, near-least, figures-are, answered-good, answered-not.
+-- Main results: pair-least, near-least, figures-are, answered-good, answered-not, figures-not-eleven.
 use mathlib.Core.Path.{_≡_, refl, sym, _∙_, ap, subst}
-use mathlib.Core.Logic.{inl}
+use mathlib.Core.Logic.{_≢_, inl}
 use mathlib.Core.List.{List}
 use Prim.Native.Nat.{ℕ, _-_, _*_, _/_, _≤_, _<_}
 use native.Mathlib.Omega.{arith}
 use Rattle.refusals.specs.Refusals.{checkNumber}
-use Rattle.refusals.specs.RefusalLaws.{pass-not-stop, stop-same}
+use Rattle.refusals.specs.RefusalLaws.{not-eleven, pass-not-stop, stop-same}
 use Rattle.refusals.specs.declared.Refusal.{Refusal}
 use Rattle.refusals.specs.declared.Check.the-variants.{Pass, Stop}
 use Rattle.math.specs.MembersLaws.{∈-upTo, length-upTo}
@@ -18,8 +18,9 @@ use Rattle.plan.specs.GoodPlan.{GoodPlan, plan-valid}
 use Rattle.code.specs.Figures.{Least, Pair, Neighbours, Capability, NonzeroWeight, Figures}
 use Rattle.code.specs.Theorems.{parity-count}
 use Rattle.figures.specs.declared.Four.{Four}
+use Rattle.figures.specs.declared.Answer.{Answer}
 use Rattle.figures.specs.declared.Answer.the-variants.{Are, Not}
-use Rattle.figures.specs.Answers.{Answered}
+use Rattle.figures.specs.Answers.{saidBy, Answered}
 use Rattle.divisors.specs.Divisors.{Most, Ordered}
 use Rattle.divisors.specs.DivisorsLaws.{most-pos, most-le, pairs-all, figure-least}
 
@@ -85,3 +86,8 @@ module _ (p : Plan) where
         number = ap checkNumber (sym e);
         values = λ z. absurd (pass-not-stop x (sym z ∙ e));
       }
+
+-- no answer has the number that is struck from the table (document 02, N4)
+pub figures-not-eleven : (a : Answer) → saidBy a .number ≢ 11
+figures-not-eleven (Are f) e = omega (arith, e)
+figures-not-eleven (Not x) e = not-eleven x e

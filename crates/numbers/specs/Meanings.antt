@@ -87,7 +87,7 @@ pub record FetchMeans (p : Plan) (m l : List ℕ) (number count : ℕ) (l' : Lis
   pub zero-when : (number ≡ 0) ↔ (fetchCheck p m l ≡ Pass)
   pub zero-leaves : number ≡ 0 → FetchBits (layoutOf p) (erasures (layoutOf p) m) (length m) l' count
 
--- a number that no refusal has, and no answer of an entry
+-- a number that no refusal has, and no answer of the library; a job's turns and what is asked for in parts are not among these (turn-not-eleven, ask-not-eleven)
 pub record Unused (number : ℕ) : Type 0 where
   pub refusal : (x : Refusal) → numberOf x ≢ number
   pub check : (k : Check) → checkNumber k ≢ number

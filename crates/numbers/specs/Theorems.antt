@@ -8,10 +8,9 @@ use native.Mathlib.Decide.{decLt}
 use native.Mathlib.Omega.{arith}
 use Rattle.math.specs.Members.{_∈_}
 use Rattle.plan.specs.Layout.{layout}
-use Rattle.plan.specs.Plans.{layoutOf, countNumber}
+use Rattle.plan.specs.Plans.{layoutOf}
+use Rattle.plan.specs.PlanLaws.{count-not-eleven}
 use Rattle.plan.specs.declared.Plan.{Plan}
-use Rattle.plan.specs.declared.Count.{Count}
-use Rattle.plan.specs.declared.Count.the-variants.{Is, Not}
 use Rattle.refusals.specs.Refusals.{numberOf, checkNumber}
 use Rattle.refusals.specs.RefusalLaws.{number-some, number-once, not-eleven, check-not-eleven, check-number-zero, check-number-stop, stop-or-pass}
 use Rattle.calls.specs.Calls.{checkOf}
@@ -26,9 +25,7 @@ use Rattle.answers.specs.declared.Recovery.{Recovery}
 use Rattle.answers.specs.declared.Recovery.the-variants as recovery
 use Rattle.answers.specs.declared.Reading.{Reading}
 use Rattle.answers.specs.declared.Reading.the-variants as reading
-use Rattle.figures.specs.Answers.{saidBy}
-use Rattle.figures.specs.declared.Answer.{Answer}
-use Rattle.figures.specs.declared.Answer.the-variants as answer
+use Rattle.figures.specs.AnswersLaws.{figures-not-eleven}
 use Rattle.numbers.specs.Entries.{RecoverOut, EncodeOut, MessageOut, FetchOut}
 use Rattle.numbers.specs.Meanings.{RecoverMeans, EncodeMeans, MessageMeans, FetchMeans, Unused}
 
@@ -122,29 +119,45 @@ module _ {p : Plan} {v m w : List ℕ} {r : Recovery} {v' w' : List ℕ} (f : Re
 pub recover-means : {p : Plan} {v m w : List ℕ} {number count : ℕ} {v' w' : List ℕ} → RecoverOut p v m w number count v' w' → RecoverMeans p v m w number count v' w'
 recover-means h = rw (h .number-is, h .count-is) (recovered-means (h .keeps))
 
--- ---- encode
+-- ---- encode and fetch: done, or refused
 
--- where an answer is done or refused its number is that of what was checked, and says which
+-- the number is that of what was checked, and says which
 module _ {k : Check} {number : ℕ} (e : number ≡ checkNumber k) where
-  own-stops : (x : Refusal) → (number ≡ numberOf x) ↔ (k ≡ Stop x)
-  own-stops x = (λ q. check-number-stop k x (sym e ∙ q), λ q. e ∙ ap checkNumber q)
+  checked-stops : (x : Refusal) → (number ≡ numberOf x) ↔ (k ≡ Stop x)
+  checked-stops x = (λ q. check-number-stop k x (sym e ∙ q), λ q. e ∙ ap checkNumber q)
 
-  own-passes : (number ≡ 0) ↔ (k ≡ Pass)
-  own-passes = (λ q. check-number-zero k (sym e ∙ q), λ q. e ∙ ap checkNumber q)
+  checked-passes : (number ≡ 0) ↔ (k ≡ Pass)
+  checked-passes = (λ q. check-number-zero k (sym e ∙ q), λ q. e ∙ ap checkNumber q)
 
-  own-in : {l : List ℕ} → 0 ∈ l → ((x : Refusal) → k ≡ Stop x → numberOf x ∈ l) → number ∈ l
-  own-in z f = ⊎-elim (λ q. rw (own-passes .1 q) z) (λ s. rw (own-stops (s .0) .1 (s .1)) (f (s .0) (s .1))) (stop-or-pass k)
+  checked-in : {l : List ℕ} → 0 ∈ l → ((x : Refusal) → k ≡ Stop x → numberOf x ∈ l) → number ∈ l
+  checked-in z f = ⊎-elim (λ q. rw (checked-passes .1 q) z) (λ s. rw (checked-stops (s .0) .1 (s .1)) (f (s .0) (s .1))) (stop-or-pass k)
 
 pub encode-means : {p : Plan} {d v : List ℕ} {number : ℕ} {v' : List ℕ} → EncodeOut p d v number v' → EncodeMeans p d v number v'
 encode-means {p} {d} {v} h =
     let f = h .keeps in
-    let own = h .number-is ∙ f .number in
+    let checked = h .number-is ∙ f .number in
     record {
-      numbers = own-in own (head refl) (λ x e. in-four (numberOf x) (few-none p (messageLent d v) e));
-      refused-when = own-stops own;
-      zero-when = own-passes own;
-      zero-leaves = λ e. let q = own-passes own .0 e in (f .encoded-to q, f .only q);
-      else-keeps = λ o. ⊎-elim (λ q. absurd (o (own-passes own .1 q))) (λ s. f .refused (s .0) (s .1) .1) (stop-or-pass (checkOf p (messageLent d v) []));
+      numbers = checked-in checked (head refl) (λ x e. in-four (numberOf x) (few-none p (messageLent d v) e));
+      refused-when = checked-stops checked;
+      zero-when = checked-passes checked;
+      zero-leaves = λ e. let q = checked-passes checked .0 e in (f .encoded-to q, f .only q);
+      else-keeps = λ o. ⊎-elim (λ q. absurd (o (checked-passes checked .1 q))) (λ s. f .refused (s .0) (s .1) .1) (stop-or-pass (checkOf p (messageLent d v) []));
+    }
+
+fetch-few : (p : Plan) (m l : List ℕ) {x : Refusal} → fetchCheck p m l ≡ Stop x → numberOf x < 5
+unfolding fetchCheck
+fetch-few p m l e = also-few p _ m _ e
+
+pub fetch-means : {p : Plan} {m l : List ℕ} {number count : ℕ} {l' : List ℕ} → FetchOut p m l number count l' → FetchMeans p m l number count l'
+fetch-means {p} {m} {l} h =
+    let f = h .keeps in
+    let checked = h .number-is ∙ f .number in
+    record {
+      numbers = checked-in checked (head refl) (λ x e. in-five (numberOf x) (fetch-few p m l e));
+      refused-when = λ x _. checked-stops checked x;
+      refused-leaves = λ x _ e. let s = f .refused x (checked-stops checked x .0 e) in (h .count-is ∙ ap fetchingCount (s .0), s .1);
+      zero-when = checked-passes checked;
+      zero-leaves = λ e. rw (h .count-is) (f .listed (checked-passes checked .0 e));
     }
 
 -- ---- message_of
@@ -156,13 +169,13 @@ reading-ends (reading.Refused x) o = absurd (o x refl)
 
 module _ {p : Plan} {v d : List ℕ} {r : Reading} {d' : List ℕ} (f : Reads p v d r d') where
   -- a call that passes is answered 0 or 5
-  read-ends : {A : Type 0} → checkOf p (messageLent d v) [] ≡ Pass → (r ≡ reading.Read → A) → (r ≡ reading.Crossed → A) → A
-  read-ends q a b = ⊎-elim a b (reading-ends r (f .not-refused q))
+  read-cases : {A : Type 0} → checkOf p (messageLent d v) [] ≡ Pass → (r ≡ reading.Read → A) → (r ≡ reading.Crossed → A) → A
+  read-cases q a b = ⊎-elim a b (reading-ends r (f .not-refused q))
 
   read-told : Told (checkOf p (messageLent d v) []) (readingNumber r)
   read-told = record {
     stopped = λ x e. (ap readingNumber (f .refused x e .0), omega (arith, few-none p (messageLent d v) e));
-    passed = λ q. read-ends q (λ e. inl (ap readingNumber e)) (λ e. inr (omega (arith, ap readingNumber e)));
+    passed = λ q. read-cases q (λ e. inl (ap readingNumber e)) (λ e. inr (omega (arith, ap readingNumber e)));
   }
 
   read-means : MessageMeans p v d (readingNumber r) d'
@@ -170,46 +183,20 @@ module _ {p : Plan} {v d : List ℕ} {r : Reading} {d' : List ℕ} (f : Reads p 
       let zero = case-when read-told (inl refl) (f .number) in
       record {
         numbers = told-in read-told (λ x e. in-four (numberOf x) (few-none p (messageLent d v) e))
-            (λ q. read-ends q (λ e. head (ap readingNumber e)) (λ e. tail (tail (tail (tail (head (ap readingNumber e)))))));
+            (λ q. read-cases q (λ e. head (ap readingNumber e)) (λ e. tail (tail (tail (tail (head (ap readingNumber e)))))));
         refused-when = stops-when read-told;
         zero-when = zero;
         zero-leaves = λ e. let s = zero .0 e in f .read-to (s .0) (f .read-when (s .0) .1 (s .1));
         five-when = case-when read-told (inr (omega arith))
-            (λ q. (λ e. read-ends q (λ a. absurd (omega (arith, ap readingNumber a, e))) (f .crossed-when q .0), λ n. ap readingNumber (f .crossed-when q .1 n)));
-        else-keeps = λ o. ⊎-elim (λ q. read-ends q (λ a. absurd (o (ap readingNumber a))) (f .crossed-keeps)) (λ s. f .refused (s .0) (s .1) .1)
+            (λ q. (λ e. read-cases q (λ a. absurd (omega (arith, ap readingNumber a, e))) (f .crossed-when q .0), λ n. ap readingNumber (f .crossed-when q .1 n)));
+        else-keeps = λ o. ⊎-elim (λ q. read-cases q (λ a. absurd (o (ap readingNumber a))) (f .crossed-keeps)) (λ s. f .refused (s .0) (s .1) .1)
             (stop-or-pass (checkOf p (messageLent d v) []));
       }
 
 pub message-means : {p : Plan} {v d : List ℕ} {number : ℕ} {d' : List ℕ} → MessageOut p v d number d' → MessageMeans p v d number d'
 message-means h = rw (h .number-is) (read-means (h .keeps))
 
--- ---- fetch
-
-fetch-few : (p : Plan) (m l : List ℕ) {x : Refusal} → fetchCheck p m l ≡ Stop x → numberOf x < 5
-unfolding fetchCheck
-fetch-few p m l e = also-few p _ m _ e
-
-pub fetch-means : {p : Plan} {m l : List ℕ} {number count : ℕ} {l' : List ℕ} → FetchOut p m l number count l' → FetchMeans p m l number count l'
-fetch-means {p} {m} {l} h =
-    let f = h .keeps in
-    let own = h .number-is ∙ f .number in
-    record {
-      numbers = own-in own (head refl) (λ x e. in-five (numberOf x) (fetch-few p m l e));
-      refused-when = λ x _. own-stops own x;
-      refused-leaves = λ x _ e. let s = f .refused x (own-stops own x .0 e) in (h .count-is ∙ ap fetchingCount (s .0), s .1);
-      zero-when = own-passes own;
-      zero-leaves = λ e. rw (h .count-is) (f .listed (own-passes own .0 e));
-    }
-
 -- ---- the number that is struck
-
-count-not-eleven : (a : Count) → countNumber a ≢ 11
-count-not-eleven (Is k) e = omega (arith, e)
-count-not-eleven (Not x) e = not-eleven x e
-
-figures-not-eleven : (a : Answer) → saidBy a .number ≢ 11
-figures-not-eleven (answer.Are f) e = omega (arith, e)
-figures-not-eleven (answer.Not x) e = not-eleven x e
 
 -- Document 02, N4: "the number isn't used again"
 pub never-eleven : Unused 11

@@ -1,22 +1,19 @@
--- No sheet says `refused 11`: document 02, N4, strikes the number. Nowhere in the text of a sheet does such a line stand, whatever its offset.
--- Main results: sheet-never-eleven, turn-not-eleven.
+-- No sheet says `refused 11`: document 02, N4, strikes the number. Nowhere in the text of a sheet do these words stand with a space behind them, in a line or across two.
+-- Main result: sheet-never-eleven.
 use mathlib.Core.Path.{_≡_, refl, sym, _∙_, ap, subst}
 use mathlib.Core.Logic.{_≢_}
-use mathlib.Core.Bool.{Bool, true, false, true≢false, cond, _&&_}
+use mathlib.Core.Bool.{Bool, true, false, true≢false, cond, not, _&&_}
 use mathlib.Core.List.{List, [], _∷_, _++_, append-assoc, append-nil}
-use Prim.Native.Nat.{ℕ, zero, suc, _+_, _-_, _*_, _/_, _%_, _^_, _<_}
-use native.Mathlib.Nat.{mod-lt}
+use Prim.Native.Nat.{ℕ, suc, _<_}
 use native.Mathlib.Omega.{arith}
-use lib.Dec.{eqb, ltb}
+use lib.Dec.{eqb}
 use lib.ListN.{length, getD, drop}
-use lib.Seq.{append-snoc}
-use borrow.Author.Tests.{lt-ltb, le-ltb, eqb-false}
+use borrow.Author.Tests.{eqb-false, not-true}
 use Rattle.math.specs.Tests.{and-left, and-right}
-use Rattle.io.specs.Digits.{digits}
-use Rattle.pieces.specs.Pieces.{widthFrom, decimal, fields}
-use Rattle.pieces.specs.DecimalLaws.{decimal-full}
+use Rattle.pieces.specs.Pieces.{decimal, fields}
+use Rattle.pieces.specs.ReadBack.{Letterless, nothing, more, letterless-fields, front, front-decimal}
 use Rattle.refusals.specs.Refusals.{checkNumber}
-use Rattle.refusals.specs.RefusalLaws.{not-eleven, check-not-eleven, check-number-byte}
+use Rattle.refusals.specs.RefusalLaws.{check-not-eleven, check-number-byte}
 use Rattle.refusals.specs.declared.Check.{Check}
 use Rattle.lines.specs.Lines.{line, recoveredWord, looseWord, crossedWord, sealedWord, symbolWord, figuresWord, fetchWord, refusedWord, endWord}
 use Rattle.state.specs.State.{State}
@@ -26,60 +23,37 @@ use Rattle.commands.specs.declared.Command.{Command}
 use Rattle.commands.specs.declared.Command.the-variants.{NewPlan, SetShift, SetSymbol, MarkOne, MarkRun, Recover, Seal, Show, Figures, Straight, Powers, Ruler, Fetch}
 use Rattle.act.specs.Meaning.{Means}
 use Rattle.act.specs.RecoveringLaws.{recoveryLine, recovering-is}
-use Rattle.turns.specs.Turns.{turnNumber}
-use Rattle.turns.specs.declared.Turn.{Turn}
-use Rattle.turns.specs.declared.Turn.the-variants.{Wait, End, Stop, On, Bad}
 use Rattle.turns.specs.Sheets.{Sheet, refusedLine, ends, unknown, short, refused, goes-on}
 
--- the line that is struck
-abbrev struck : ℕ → List ℕ
-struck offset = line refusedWord (11 ∷ offset ∷ [])
+-- the words that are struck, with a space behind them, and then anything
+abbrev struck : List ℕ → List ℕ
+struck after = refusedWord ++ fields (11 ∷ []) ++ (32 ∷ after)
 
--- it stands nowhere in the text
+-- they stand nowhere in the text
 record Free (text : List ℕ) : Type 0 where
-  free : (before after : List ℕ) (offset : ℕ) → text ≢ before ++ (struck offset ++ after)
+  free : (before after : List ℕ) → text ≢ before ++ struck after
 
 -- ---- text in front
 
--- it does not begin here
+-- they do not begin here
 record Other (text : List ℕ) : Type 0 where
-  other : (after : List ℕ) (offset : ℕ) → text ≢ struck offset ++ after
+  other : (after : List ℕ) → text ≢ struck after
 
 free-cons : (c : ℕ) {text : List ℕ} → Other (c ∷ text) → Free text → Free (c ∷ text)
 free-cons c {text} o f = record { free = go }
   where
-    go : (before after : List ℕ) (offset : ℕ) → (c ∷ text) ≢ before ++ (struck offset ++ after)
-    go [] after offset e = o .other after offset e
-    go (b ∷ before) after offset e = f .free before after offset (ap (drop 1) e)
+    go : (before after : List ℕ) → (c ∷ text) ≢ before ++ struck after
+    go [] after e = o .other after e
+    go (b ∷ before) after e = f .free before after (ap (drop 1) e)
 
--- the line begins with r, and f is its third letter
+-- their first letter is r, their third f
 other-first : (c : ℕ) (text : List ℕ) → c ≢ 114 → Other (c ∷ text)
-unfolding line refusedWord
-other-first c text n = record { other = λ after offset e. n (ap (λ l. getD l 0 0) e) }
+unfolding refusedWord
+other-first c text n = record { other = λ after e. n (ap (λ l. getD l 0 0) e) }
 
 other-third : (c d k : ℕ) (text : List ℕ) → k ≢ 102 → Other (c ∷ d ∷ k ∷ text)
-unfolding line refusedWord
-other-third c d k text n = record { other = λ after offset e. n (ap (λ l. getD l 2 0) e) }
-
--- numbers, spaces and line feeds: no letters
-data Letterless : List ℕ → Type 0 where
-  nothing : Letterless []
-  more : {c : ℕ} {l : List ℕ} → c < 58 → Letterless l → Letterless (c ∷ l)
-
-letterless-append : {l m : List ℕ} → Letterless l → Letterless m → Letterless (l ++ m)
-letterless-append nothing q = q
-letterless-append (more h p) q = more h (letterless-append p q)
-
-letterless-digits : (k n : ℕ) → Letterless (digits 10 k n)
-letterless-digits zero n = nothing
-letterless-digits (suc k) n =
-    let h : n % 10 < 10 = mod-lt n (omega arith) in
-    letterless-append (letterless-digits k (n / 10)) (more (rw (lt-ltb (n % 10) 10 h) (omega arith)) nothing)
-
-letterless-fields : (ns : List ℕ) → Letterless (fields ns)
-unfolding fields decimal
-letterless-fields [] = nothing
-letterless-fields (n ∷ ns) = letterless-append (more (omega arith) (letterless-digits (widthFrom 20 1 n) n)) (letterless-fields ns)
+unfolding refusedWord
+other-third c d k text n = record { other = λ after e. n (ap (λ l. getD l 2 0) e) }
 
 free-letterless : {l text : List ℕ} → Letterless l → Free text → Free (l ++ text)
 free-letterless nothing f = f
@@ -87,7 +61,7 @@ free-letterless {text = text} (more {c} {l} h p) f = free-cons c (other-first c 
 
 -- a letter of a word, and those after it: it is no r, or two after it stands another letter than f
 plainAt : ℕ → List ℕ → Bool
-plainAt c w = cond (eqb c 114) (cond (eqb (getD w 1 102) 102) false true) true
+plainAt c w = cond (eqb c 114) (not (eqb (getD w 1 102) 102)) true
 
 plain : List ℕ → Bool
 plain [] = true
@@ -97,15 +71,11 @@ plain-other : (c : ℕ) (w text : List ℕ) → plainAt c w ≡ true → Other (
 unfolding plainAt
 plain-other c w text h = go w (eqb c 114) refl h
   where
-    not-both : {b : Bool} → cond b false true ≡ true → b ≡ false
-    not-both {b = true} e = sym e
-    not-both {b = false} e = refl
-
-    go : (w : List ℕ) (b : Bool) → eqb c 114 ≡ b → cond b (cond (eqb (getD w 1 102) 102) false true) true ≡ true → Other (c ∷ w ++ text)
+    go : (w : List ℕ) (b : Bool) → eqb c 114 ≡ b → cond b (not (eqb (getD w 1 102) 102)) true ≡ true → Other (c ∷ w ++ text)
     go w false e h = other-first c (w ++ text) (eqb-false c 114 e)
     go [] true e h = absurd (true≢false (sym h))
     go (d ∷ []) true e h = absurd (true≢false (sym h))
-    go (d ∷ k ∷ w) true e h = other-third c d k (w ++ text) (eqb-false k 102 (not-both h))
+    go (d ∷ k ∷ w) true e h = other-third c d k (w ++ text) (eqb-false k 102 (not-true (eqb k 102) h))
 
 free-word : (w text : List ℕ) → plain w ≡ true → Free text → Free (w ++ text)
 unfolding plain
@@ -122,55 +92,34 @@ free-line word ns text h f =
 -- ---- the last line
 
 free-nothing : Free []
-unfolding line refusedWord
+unfolding refusedWord
 free-nothing = record { free = go }
   where
-    go : (before after : List ℕ) (offset : ℕ) → [] ≢ before ++ (struck offset ++ after)
-    go [] after offset e = let q : _≡_ {A = ℕ} 0 114 = ap (λ l. getD l 0 0) e in omega arith
-    go (b ∷ before) after offset e = let q : 0 ≡ suc (length (before ++ (struck offset ++ after))) = ap length e in omega arith
+    go : (before after : List ℕ) → [] ≢ before ++ struck after
+    go [] after e = let q : _≡_ {A = ℕ} 0 114 = ap (λ l. getD l 0 0) e in omega arith
+    go (b ∷ before) after e = let q : 0 ≡ suc (length (before ++ struck after)) = ap length e in omega arith
 
 free-end : {text : List ℕ} → Free (text ++ []) → Free text
 free-end {text} f = subst Free (append-nil text) f
 
--- the number at the front of a text
-read : ℕ → List ℕ → ℕ
-read n [] = n
-read n (c ∷ l) = cond (ltb c 48) n (read (10 * n + (c - 48)) l)
-
-read-digits : (k n : ℕ) (l : List ℕ) → n < 10 ^ k → read 0 (digits 10 k n ++ l) ≡ read n l
-unfolding read
-read-digits zero n l h = let e : n ≡ 0 = omega arith in rw e
-read-digits (suc k) n l h =
-    let d : n % 10 < 10 = mod-lt n (omega arith) in
-    let less : n / 10 < 10 ^ k = omega arith in
-    let e : 10 * (n / 10) + (48 + n % 10 - 48) ≡ n = omega arith in
-    rw (lt-ltb (n % 10) 10 d)
-    (ap (read 0) (append-snoc (digits 10 k (n / 10)) (48 + n % 10) l)
-    ∙ read-digits k (n / 10) ((48 + n % 10) ∷ l) less
-    ∙ ap (λ (b : Bool). cond b (n / 10) (read (10 * (n / 10) + (48 + n % 10 - 48)) l)) (le-ltb (48 + n % 10) 48 (omega arith))
-    ∙ ap (λ x. read x l) e)
-
-read-decimal : (n : ℕ) (l : List ℕ) → n < 256 → read 0 (decimal n ++ (32 ∷ l)) ≡ n
-unfolding decimal read
-read-decimal n l h = read-digits (widthFrom 20 1 n) n (32 ∷ l) (decimal-full n (omega arith) .1)
-
--- so the line says its number
-says : (n offset : ℕ) (after : List ℕ) → n < 256 → read 0 (drop 8 (line refusedWord (n ∷ offset ∷ []) ++ after)) ≡ n
+-- the number of a line `refused`, and that of the words that are struck
+line-number : (n offset : ℕ) → n < 256 → front 0 (drop 8 (line refusedWord (n ∷ offset ∷ []))) ≡ n
 unfolding line refusedWord fields
-says n offset after h =
-    let rest = 32 ∷ decimal offset ++ [] in
-    ap (read 0) (append-assoc (decimal n ++ rest) (10 ∷ []) after ∙ append-assoc (decimal n) rest (10 ∷ after)) ∙ read-decimal n _ h
+line-number n offset h = ap (front 0) (append-assoc (decimal n) (32 ∷ decimal offset ++ []) (10 ∷ [])) ∙ front-decimal n _ h
+
+struck-number : (after : List ℕ) → front 0 (drop 8 (struck after)) ≡ 11
+unfolding refusedWord fields
+struck-number after = ap (λ l. front 0 (l ++ (32 ∷ after))) (append-nil (decimal 11)) ∙ front-decimal 11 after (omega arith)
 
 free-refused : (c : Check) (offset : ℕ) → Free (refusedLine c offset)
 unfolding refusedLine line refusedWord
 free-refused c offset =
-    free-end (free-cons 114 (record { other = another })
-    (free-line (101 ∷ 102 ∷ 117 ∷ 115 ∷ 101 ∷ 100 ∷ []) (checkNumber c ∷ offset ∷ []) [] (unfold plain plainAt in refl) free-nothing))
+    free-cons 114 (record { other = another })
+    (free-end (free-line (101 ∷ 102 ∷ 117 ∷ 115 ∷ 101 ∷ 100 ∷ []) (checkNumber c ∷ offset ∷ []) [] (unfold plain plainAt in refl) free-nothing))
   where
-    another : (after : List ℕ) (o : ℕ) → (line refusedWord (checkNumber c ∷ offset ∷ []) ++ []) ≢ struck o ++ after
-    another after o e =
-        check-not-eleven c
-        (sym (says (checkNumber c) offset [] (check-number-byte c)) ∙ ap (λ l. read 0 (drop 8 l)) e ∙ says 11 o after (omega arith))
+    another : (after : List ℕ) → line refusedWord (checkNumber c ∷ offset ∷ []) ≢ struck after
+    another after e =
+        check-not-eleven c (sym (line-number (checkNumber c) offset (check-number-byte c)) ∙ ap (λ l. front 0 (drop 8 l)) e ∙ struck-number after)
 
 -- ---- the sheet
 
@@ -211,15 +160,6 @@ sheet-free (short e) = free-refused _ _
 sheet-free (refused c e n) = free-refused _ _
 sheet-free {s = s} (goes-on s' text rest c e z m t) = means-free s s' text c m (sheet-free t)
 
--- a sheet, of whatever job and from whatever state, has no line `refused 11`
-pub sheet-never-eleven : {o : ℕ} {s : State} {b x : List ℕ} → Sheet o s b x → (before after : List ℕ) (offset : ℕ) →
-    x ≢ before ++ (line refusedWord (11 ∷ offset ∷ []) ++ after)
+-- a sheet, of whatever job and from whatever state
+pub sheet-never-eleven : {o : ℕ} {s : State} {b x : List ℕ} → Sheet o s b x → (before after : List ℕ) → x ≢ before ++ (refusedWord ++ fields (11 ∷ []) ++ (32 ∷ after))
 sheet-never-eleven t = sheet-free t .free
-
--- nor has a turn that number
-pub turn-not-eleven : (t : Turn) → turnNumber t ≢ 11
-turn-not-eleven Wait e = omega (arith, e)
-turn-not-eleven (End count) e = omega (arith, e)
-turn-not-eleven (Stop x count) e = not-eleven x e
-turn-not-eleven (On size count) e = omega (arith, e)
-turn-not-eleven (Bad x) e = not-eleven x e

@@ -4,3 +4,4 @@ pub mod DecimalLaws
 pub mod DigitLoops
 pub mod PiecesLaws
 pub mod ShortLaws
+pub mod ReadBack

@@ -2,7 +2,7 @@
 -- there are and what each says (`plan-refusals`), that a plan made with no refusal is good (`of-good`, `blank-good`,
 -- `straight-good`, `powers-good`, `ruler-good`), a plan with another shift, and the rows of a place.
 use mathlib.Core.Path.{_≡_, refl, sym, _∙_, ap, subst}
-use mathlib.Core.Logic.{_⊎_, inl, inr, by-cases}
+use mathlib.Core.Logic.{_≢_, _⊎_, inl, inr, by-cases}
 use mathlib.Core.Bool.{Bool, true, false, _&&_}
 use mathlib.Core.List.{List, [], _∷_, map, map-append}
 use Prim.Native.Nat.{ℕ, zero, suc, _+_, _-_, _*_, _/_, _%_, _^_, _<_, _≤_}
@@ -20,7 +20,7 @@ use Rattle.math.specs.MembersLaws.{length-upTo, getD-upTo, upTo-suc}
 use Rattle.math.specs.Tests.{and-left, and-right}
 use Rattle.math.specs.Padded.{zeros-at}
 use Rattle.refusals.specs.Refusals.{checkNumber, unless, _then_}
-use Rattle.refusals.specs.RefusalLaws.{pass-not-stop, stop-same, unless-pass, then-pass}
+use Rattle.refusals.specs.RefusalLaws.{not-eleven, pass-not-stop, stop-same, unless-pass, then-pass}
 use Rattle.refusals.specs.declared.Refusal.{Refusal}
 use Rattle.refusals.specs.declared.Refusal.the-variants.{Size, Shift, Family}
 use Rattle.refusals.specs.declared.Check.{Check}
@@ -35,6 +35,7 @@ use Rattle.plan.specs.Layout.{Layout, Valid, layout, divisor, messageCou
 use Rattle.plan.specs.GoodPlan.{GoodPlan, plan-valid}
 use Rattle.plan.specs.Plans.{rawPlan, withShift, layoutOf, shiftsCheck, checkBy, planCheck, made, answered, planOf, blankOf, straightOf, powersOf, rulerOf, countOf, countNumber, messageCountOf}
 use Rattle.plan.specs.declared.Plan.{Plan}
+use Rattle.plan.specs.declared.Count.{Count}
 use Rattle.plan.specs.declared.Count.the-variants.{Is, Not}
 
 -- n, t and n × t within bounds: what the test of the size says
@@ -264,6 +265,11 @@ pub count-number : (c : Check) (k : ℕ) → countNumber (countOf c k) ≡ check
 unfolding countOf
 count-number Pass k = refl
 count-number (Stop x) k = refl
+
+-- nor has a count the number that is struck from the table (document 02, N4)
+pub count-not-eleven : (a : Count) → countNumber a ≢ 11
+count-not-eleven (Is k) e = omega (arith, e)
+count-not-eleven (Not x) e = not-eleven x e
 
 -- the remainder of a bottom row where p is above k, and where it is not
 pub bottomRow-wraps : {t p k : ℕ} → k < p → p < t → bottomRow t p k ≡ t + (k + t - p)

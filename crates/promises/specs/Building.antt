@@ -214,8 +214,8 @@ count-passes p m good long spare = sym (passes p (countLent m) m good fits (clea
     fits = unfold lengthsFit countLent layoutOf layout markBytes in simp (eq-eqb (length m) ((p .n * p .t + 7) / 8) long)
 
 -- no other codeword of a plan carries the message
-pub carries-only : (p : Plan) → Valid (layoutOf p) → {w d : List ℕ} → Carries (layoutOf p) w d → (x : List ℕ) → Carries (layoutOf p) x d → x ≡ w
-carries-only p ok {w} {d} a x q =
+pub no-other-carries : (p : Plan) → Valid (layoutOf p) → {w d : List ℕ} → Carries (layoutOf p) w d → (x : List ℕ) → Carries (layoutOf p) x d → x ≡ w
+no-other-carries p ok {w} {d} a x q =
     ext-getD 0 x w (q .codeword .whole ∙ sym (a .codeword .whole))
     (λ c h. carried-same (layoutOf p) ok d x w q a c (plan-places p ok (rw (q .codeword .whole) at h)))
 
@@ -234,7 +234,7 @@ encodes-done p d v pass a = record {
   refused = λ x q. absurd (not-both pass q);
   encoded = λ _. refl;
   encoded-to = λ _. a;
-  only = λ _. carries-only p (pass-valid p (messageLent d v) [] pass) a;
+  only = λ _. no-other-carries p (pass-valid p (messageLent d v) [] pass) a;
   number = sym (ap checkNumber pass);
 }
 

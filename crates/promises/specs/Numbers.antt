@@ -79,9 +79,9 @@ pub read-number : (p : Plan) (v d : List ℕ) {r : Reading} {d' : List ℕ} → 
 read-number p v d {r} e pass = (λ z. e .read-when pass .0 (read-zero r z), λ s. ap readingNumber (e .read-when pass .1 s))
 
 -- the message count of a plan is the number of its message places
-pub counted : (p : Plan) → length (layoutOf p .sections) * layoutOf p .t - (2 * layoutOf p .t - divisor (layoutOf p)) ≡ messageCount (layoutOf p)
+pub message-count-of : (p : Plan) → length (layoutOf p .sections) * layoutOf p .t - (2 * layoutOf p .t - divisor (layoutOf p)) ≡ messageCount (layoutOf p)
 unfolding layoutOf layout messageCount
-counted p = rw (length-upTo (p .n))
+message-count-of p = rw (length-upTo (p .n))
 
 pub some-section : (p : Plan) → planCheck p ≡ Pass → 0 < length (layoutOf p .sections)
 unfolding layoutOf layout
@@ -90,4 +90,4 @@ some-section p good = rw (length-upTo (p .n)) (omega (arith, good-bounds p good 
 pub message-count-is : (p : Plan) → planCheck p ≡ Pass → (l : List ℕ) → Lists (Message (layoutOf p)) l → length l ≡ messageCount (layoutOf p)
 message-count-is p good l h =
     let m = message-count (layoutOf p) (good-valid p good) (some-section p good) in
-    ap length (lists-unique h (m .1)) ∙ m .2 ∙ counted p
+    ap length (lists-unique h (m .1)) ∙ m .2 ∙ message-count-of p

@@ -1,6 +1,6 @@
 -- The promises fix everything: two outcomes that keep the same promise on the same input are equal. No bound on any entry of a buffer is needed.
--- That an answer to a call that passes is no refusal follows from the other fields; these laws say so and do not use `not-refused`. Nor do those on numbers use `number`.
--- Main results: recovers-once, encodes-once, reads-once, fetches-once; decides-not-refused, reads-not-refused; encodes-number, fetches-number.
+-- That an answer to a call that passes is no refusal follows from the other fields; these laws say so and do not use `not-refused`. Nor do they use `number` or `only`, which follow too.
+-- Main results: recovers-once, encodes-once, reads-once, fetches-once; decides-not-refused, encodes-not-refused, reads-not-refused; encodes-number, fetches-number.
 use mathlib.Core.Path.{_≡_, refl, sym, _∙_, ap}
 use mathlib.Core.Logic.{_≢_, ⊎-elim}
 use mathlib.Core.List.{List, []}
@@ -82,10 +82,10 @@ stop-once Pass f g pass = pass refl
 stop-once (Stop x) f g pass = (f x refl .0 ∙ sym (g x refl .0), f x refl .1 ∙ sym (g x refl .1))
 
 -- 01's number of an answer that is done or refused follows from these cases
-number-by : (k : Check) {A : Type 0} (num : A → ℕ) {refused : Refusal → A} {r : A} {b b' : List ℕ} → ((x : Refusal) → num (refused x) ≡ numberOf x) →
-    ((x : Refusal) → k ≡ Stop x → (r ≡ refused x) × (b' ≡ b)) → (k ≡ Pass → num r ≡ 0) → num r ≡ checkNumber k
+number-by : (k : Check) {A : Type 0} (num : A → ℕ) {refused : Refusal → A} {r : A} → ((x : Refusal) → num (refused x) ≡ numberOf x) →
+    ((x : Refusal) → k ≡ Stop x → r ≡ refused x) → (k ≡ Pass → num r ≡ 0) → num r ≡ checkNumber k
 number-by Pass num n stop pass = pass refl
-number-by (Stop x) num n stop pass = ap num (stop x refl .0) ∙ n x
+number-by (Stop x) num n stop pass = ap num (stop x refl) ∙ n x
 
 -- ---- encode
 
@@ -93,12 +93,18 @@ number-by (Stop x) num n stop pass = ap num (stop x refl .0) ∙ n x
 pub encodes-once : (p : Plan) (d v : List ℕ) {r s : Encoding} {v' x' : List ℕ} → Encodes p d v r v' → Encodes p d v s x' → (r ≡ s) × (v' ≡ x')
 encodes-once p d v {v' = v'} f g =
     stop-once (checkOf p (messageLent d v) []) (f .refused) (g .refused)
-    (λ pass. (f .encoded pass ∙ sym (g .encoded pass), g .only pass v' (f .encoded-to pass)))
+    (λ pass. (
+      f .encoded pass ∙ sym (g .encoded pass),
+      Building.no-other-carries p (Building.pass-valid p (messageLent d v) [] pass) (g .encoded-to pass) v' (f .encoded-to pass),
+    ))
+
+pub encodes-not-refused : (p : Plan) (d v : List ℕ) {r : Encoding} {v' : List ℕ} → Encodes p d v r v' → checkOf p (messageLent d v) [] ≡ Pass → (x : Refusal) → r ≢ encoding.Refused x
+encodes-not-refused p d v f pass x e = let q = f .encoded pass in Building.zero-one (cc)
 
 pub encodes-number : (p : Plan) (d v : List ℕ) {r : Encoding} {v' : List ℕ} →
     ((x : Refusal) → checkOf p (messageLent d v) [] ≡ Stop x → (r ≡ encoding.Refused x) × (v' ≡ v)) →
     (checkOf p (messageLent d v) [] ≡ Pass → r ≡ encoding.Encoded) → encodingNumber r ≡ checkNumber (checkOf p (messageLent d v) [])
-encodes-number p d v stop pass = number-by (checkOf p (messageLent d v) []) encodingNumber (λ x. refl) stop (λ q. ap encodingNumber (pass q))
+encodes-number p d v stop pass = number-by (checkOf p (messageLent d v) []) encodingNumber (λ x. refl) (λ x e. stop x e .0) (λ q. ap encodingNumber (pass q))
 
 -- ---- message_of
 
@@ -138,4 +144,4 @@ fetches-once p m l {r} {s} f g =
 
 pub fetches-number : (p : Plan) (m l : List ℕ) {r : Fetching} {l' : List ℕ} → ((x : Refusal) → fetchCheck p m l ≡ Stop x → (r ≡ Refusing x) × (l' ≡ l)) →
     (fetchCheck p m l ≡ Pass → (z : ℕ) × (r ≡ Fetched z)) → fetchingNumber r ≡ checkNumber (fetchCheck p m l)
-fetches-number p m l stop pass = number-by (fetchCheck p m l) fetchingNumber (λ x. refl) stop (λ q. ap fetchingNumber (pass q .1))
+fetches-number p m l stop pass = number-by (fetchCheck p m l) fetchingNumber (λ x. refl) (λ x e. stop x e .0) (λ q. ap fetchingNumber (pass q .1))

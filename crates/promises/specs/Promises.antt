@@ -1,4 +1,4 @@
--- What recover, encode, message_of and fetch promise: a field for each sentence of demands 2 and 3, of 01's "Recovery" and "Sealing", and of 02's N2.
+-- What recover, encode, message_of and fetch promise: a field for each sentence of demands 2 and 3, of 01's "Recovery" and "Sealing", and of 02's N2 and N4.
 -- p the plan, v the block, m the marks, w the witness list, d the message, l the fetch list, each as lent; r the answer; v', w', .. the buffers as they are left.
 use mathlib.Core.Path.{_≡_}
 use mathlib.Core.Logic.{_↔_, _≢_}

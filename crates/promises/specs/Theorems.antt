@@ -46,7 +46,7 @@ use Rattle.answers.specs.declared.Fetching.the-variants.{Fetched, Refused as Un
 use Rattle.math.specs.Padded.{padded}
 use Rattle.promises.specs.Promises.{Decides, Recovers, recoverLent, Encodes, Reads, messageLent, Fetches, fetchCheck}
 use Rattle.promises.specs.Building
-use Rattle.promises.specs.Numbers.{counted, some-section}
+use Rattle.promises.specs.Numbers.{message-count-of, some-section}
 use Rattle.promises.specs.MarksOf.{marksOf, length-marksOf, byte-marksOf, erasures-marksOf, spare-marksOf}
 
 -- exactly one of four
@@ -270,7 +270,7 @@ all-sections p j h = ∈-upTo h
 pub sealable : (p : Plan) → planCheck p ≡ Pass → (d : List ℕ) → length d ≡ messageCount (layoutOf p) → ((i : ℕ) → at d i < 256) →
     Single (λ x. Carries (layoutOf p) x d)
 sealable p good d long bytes =
-    carried-once (layoutOf p) (good-valid p good) (all-sections p) (some-section p good) d (long ∙ sym (counted p)) bytes
+    carried-once (layoutOf p) (good-valid p good) (all-sections p) (some-section p good) d (long ∙ sym (message-count-of p)) bytes
 
 -- reading an encoded block gives the message back
 pub read-of-encoded : (p : Plan) (d v e : List ℕ) {v' e' : List ℕ} {r : Reading} → Encodes p d v encoding.Encoded v' → Reads p v' e r e' →

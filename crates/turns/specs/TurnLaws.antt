@@ -1,5 +1,5 @@
 -- How a turn keeps its promise, case by case.
--- Main results: on-nothing-yet, on-cut-yet, on-end, on-unknown, on-short, on-refused, on-acts; says-refused, says-end.
+-- Main results: on-nothing-yet, on-cut-yet, on-end, on-unknown, on-short, on-refused, on-acts; says-refused, says-end; turn-not-eleven.
 use mathlib.Core.Path.{_≡_, refl, sym, _∙_, ap, subst}
 use mathlib.Core.Logic.{_≢_}
 use mathlib.Core.Bool.{Bool, true, false}
@@ -8,6 +8,7 @@ use Prim.Native.Nat.{ℕ}
 use native.Mathlib.Omega.{arith}
 use lib.ListN.{getD}
 use Rattle.refusals.specs.Refusals.{numberOf}
+use Rattle.refusals.specs.RefusalLaws.{not-eleven}
 use Rattle.refusals.specs.declared.Refusal.{Refusal}
 use Rattle.refusals.specs.declared.Check.{Check}
 use Rattle.refusals.specs.declared.Check.the-variants as check
@@ -20,9 +21,9 @@ use Rattle.state.specs.Refusing.{refusalOf}
 use Rattle.act.specs.Acts.{stateOf}
 use Rattle.act.specs.declared.Held.{Held}
 use Rattle.turns.specs.Sheets.{refusedLine}
-use Rattle.turns.specs.Turns.{Stops, Same, Ends, Goes, Turns}
+use Rattle.turns.specs.Turns.{turnNumber, Stops, Same, Ends, Goes, Turns}
 use Rattle.turns.specs.declared.Turn.{Turn}
-use Rattle.turns.specs.declared.Turn.the-variants.{Wait, End, Stop}
+use Rattle.turns.specs.declared.Turn.the-variants.{Wait, End, Stop, On, Bad}
 
 zero-one : _≡_ {A = ℕ} 0 1 → ⊥
 zero-one e = omega arith
@@ -143,3 +144,11 @@ says-refused {l} {l'} x offset count e w =
 
 pub says-end : {l l' : List ℕ} (count : ℕ) → Wrote l (line endWord []) l' count → Ends l (End count) l'
 says-end count w = record { count = count; ended = refl; length = refl; wrote = w }
+
+-- no turn has the number that is struck from the table (document 02, N4)
+pub turn-not-eleven : (t : Turn) → turnNumber t ≢ 11
+turn-not-eleven Wait e = omega (arith, e)
+turn-not-eleven (End count) e = omega (arith, e)
+turn-not-eleven (Stop x count) e = not-eleven x e
+turn-not-eleven (On size count) e = omega (arith, e)
+turn-not-eleven (Bad x) e = not-eleven x e

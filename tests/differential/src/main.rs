@@ -46,10 +46,11 @@ const OUTCOMES: [(&str, &[u8]); 17] = [
     ("encode, 255", &[0]),
     ("message_of", &[0, 1, 2, 3, 5]),
 ];
-/// Cases of each outcome at least, of each kind of message that is encoded at each size; cases of recovered, crossed and loose, of lists with places and
-/// of empty ones, at each size at least; and cases in all at least.
+/// Cases of each outcome at least; of encoded messages, by their kind, so many at each size.
 const EACH: usize = 300;
+/// Cases of recovered, crossed and loose, of lists with places and of empty ones, at each size at least.
 const EACH_SIZE: usize = 100;
+/// Cases in all at least.
 const IN_ALL: usize = 200_000;
 
 /// n, t and size of plans at the bounds.
