@@ -1,5 +1,7 @@
 // Single commands of a job on the lent state, a function for each. The command is not refused.
 // Public for the crates above only.
+#![tactic(auto)]
+
 ghost use Rattle.std.specs.Prelude.{◌≡◌};
 ghost use Rattle.act.specs.Acts.{block_length, marks_length};
 

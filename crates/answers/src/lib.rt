@@ -1,5 +1,7 @@
 // The answers of recover, encode, message_of and fetch. What they promise is in the crate promises.
 // Entries: Recovery::number, Recovery::count, Encoding::number, Reading::number, Fetching::number, Fetching::count.
+#![tactic(auto)]
+
 ghost use Rattle.std.specs.Prelude.{◌≡◌};
 ghost use Rattle.answers.specs.Answers.{recovery_number, recovery_count, encoding_number, reading_number, fetching_number, fetching_count};
 

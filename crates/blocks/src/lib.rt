@@ -1,5 +1,7 @@
 // Commands on the whole block: 07 and 09, and the laws of 06, which is the crate recovering.
 // Public for the crates above only.
+#![tactic(auto)]
+
 ghost use Rattle.std.specs.Prelude.{◌≡◌, true, List, ℕ, length, take};
 ghost use Rattle.plan.specs.Layout.{message_count};
 ghost use Rattle.plan.specs.Plans.{layout_of, plan_check};

@@ -1,5 +1,7 @@
 // The bounds of a plan, and the test of n, t and n × t. `Plan` has them as constants of its own, made of these.
 // Public for the crates above only.
+#![tactic(auto)]
+
 ghost use Rattle.std.specs.Prelude.{◌≡◌};
 ghost use Rattle.bounds.specs.Bounds.{size_fits};
 

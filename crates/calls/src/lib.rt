@@ -1,5 +1,7 @@
 // What refuses a call: one test for every entry. And the number of marked places, counted from the bits (the crate stretches).
 // Entry: erasure_count. The rest is public for the crates above only: it takes the buffers' lengths, or that they fit, as its caller says.
+#![tactic(auto)]
+
 ghost use Rattle.std.specs.Prelude.{◌≡◌, ◌*◌, ◌≤◌};
 ghost use Rattle.bounds.specs.Bounds.{max_places, max_t};
 ghost use Rattle.refusals.specs.Refusals.{check_number};

@@ -1,5 +1,7 @@
 // The C entry points: each hands its arguments to an entry of the library and gives the answer back as a number of document 01's table.
 // Entries: every function. Declared for C in include/fumizhaki.h. What each promises is in the crate numbers, specs/Entries.antt.
+#![tactic(auto)]
+
 ghost use Rattle.std.specs.Prelude.{◌≡◌};
 ghost use Rattle.refusals.specs.Refusals.{check_number};
 ghost use Rattle.plan.specs.Plans.{plan_check, plan_of, straight_of, powers_of, ruler_of, message_count_of, count_number, count_value};

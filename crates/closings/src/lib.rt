@@ -1,5 +1,7 @@
 // The places that close a cycle of marked places above them, as mark bits: the walk over the marked places from the highest down, which joins the rows of each.
 // Public for the crate fetch only.
+#![tactic(auto)]
+
 ghost use Rattle.std.specs.Prelude.{◌≡◌, ◌+◌, ◌*◌, ◌/◌, ◌<◌, length};
 ghost use Rattle.plan.specs.Layout.{layout};
 ghost use Rattle.plan.specs.GoodPlan.{GoodPlan};

@@ -1,5 +1,7 @@
 // The commands of a job: which one stands at the front of some bytes.
 // Entries: parse, size_of.
+#![tactic(auto)]
+
 ghost use Rattle.std.specs.Prelude.{◌≡◌, ◌<◌};
 ghost use Rattle.commands.specs.Commands.{size_of, one, two, command_of, parsed};
 

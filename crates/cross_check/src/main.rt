@@ -1,5 +1,7 @@
 // The library beside a second, naive implementation, on the cases that document 01 names and on seeded ones.
 // Writes the number of cases of each outcome and refusal, and the number of those in which the two differ.
+#![tactic(auto)]
+
 mod buffers;
 mod numbers;
 mod random;

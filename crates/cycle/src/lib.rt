@@ -1,5 +1,7 @@
 // The cycle of erasures that a closing place makes: walking it by the row tables.
 // Public for the crates above only.
+#![tactic(auto)]
+
 ghost use Rattle.std.specs.Prelude.{◌≡◌, ◌*◌, length};
 ghost use Rattle.tables.specs.Spots.{Stands};
 ghost use Rattle.cycle.specs.Shows.{Closing, Room, Begun, Stripped, Showing};

@@ -1,5 +1,7 @@
 // The answer of recovery over lent tables: the block is filled, or it stays and the answer says why.
 // Public for the crate recovery only: cut.
+#![tactic(auto)]
+
 ghost use Rattle.std.specs.Prelude.{◌≡◌};
 ghost use Rattle.plan.specs.Layout.{layout};
 ghost use Rattle.code.specs.Marks.{erasures};

@@ -1,5 +1,7 @@
 // The desk: reads a job from standard input and writes its sheet to standard output.
 // The crate streaming says what to read and write next and keeps every number; here are the buffers, the reads and the writes.
+#![tactic(auto)]
+
 use act::{BLOCK, MARKS};
 use libc::{STDIN_FILENO, STDOUT_FILENO};
 use lines::LINE;

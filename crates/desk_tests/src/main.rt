@@ -1,5 +1,7 @@
 // Jobs performed in memory to their end, and their sheets: every refusal with its offset, and the bounds of document 01.
 // The file stdin has the jobs, a line each; the file stdout has the sheets that document 01 asks for.
+#![tactic(auto)]
+
 ghost use Rattle.std.specs.Prelude.{ℕ, ◌%◌, ◌<◌, ◌≤◌, ◌≡◌, get_or};
 
 use libc::{STDIN_FILENO, STDOUT_FILENO};

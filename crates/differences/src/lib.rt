@@ -1,5 +1,7 @@
 // The ruler rule: all differences p_i - p_j mod t of two sections are distinct. A mark for each difference that was met.
 // Public for the crates above only.
+#![tactic(auto)]
+
 ghost use Rattle.std.specs.Prelude.{◌≡◌, ◌≤◌, ◌<◌, length};
 ghost use Rattle.plan.specs.GoodPlan.{GoodPlan};
 ghost use Rattle.differences.specs.Sections.{TwoOf};

@@ -1,5 +1,7 @@
 // A command that makes no plan and is not refused, performed by the function that is its own.
 // Public for the crate job only: dispatch.
+#![tactic(auto)]
+
 ghost use Rattle.std.specs.Prelude.{◌≡◌, false, length, take};
 ghost use Rattle.lines.specs.Lines.{line_length, Wrote};
 ghost use Rattle.refusals.specs.declared.Check.TheVariants as check;

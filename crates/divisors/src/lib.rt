@@ -1,6 +1,8 @@
 // What two sections share is the greatest common divisor of t and the difference of their shifts. The most that is shared,
 // over all pairs and over the neighbours, gives the two figures.
 // Public for the crates above only.
+#![tactic(auto)]
+
 ghost use Rattle.std.specs.Prelude.{◌≡◌, ◌-◌, ◌*◌, ◌/◌, ◌≤◌, ◌<◌, length};
 ghost use Rattle.bounds.specs.Bounds.{max_t};
 ghost use Rattle.plan.specs.Layout.{layout};

@@ -1,6 +1,8 @@
 // Why a block cannot be recovered: a component that does not add up, or a cycle of erasures.
 // Public for the crate deciding only: explain.
 // The block is known by the sums of its rows, whatever stands at the marked places: a marked place enters its component twice.
+#![tactic(auto)]
+
 ghost use Rattle.std.specs.Prelude.{◌≡◌, ◌*◌, length};
 ghost use Rattle.plan.specs.Layout.{layout};
 ghost use Rattle.code.specs.Marks.{erasures};

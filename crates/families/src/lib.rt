@@ -1,5 +1,7 @@
 // The conditions of the families of plans.
 // Public for the crates above only.
+#![tactic(auto)]
+
 ghost use Rattle.std.specs.Prelude.{◌≡◌};
 ghost use Rattle.families.specs.Families.{powers_need};
 

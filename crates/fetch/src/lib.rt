@@ -1,5 +1,7 @@
 // The fetch list (document 02, N2): the marked places to fetch so that the marks that are left hold no cycle (01: ring).
 // Entry: fetch.
+#![tactic(auto)]
+
 ghost use Rattle.std.specs.Prelude.{◌≡◌, ◌+◌, ◌*◌, ◌/◌, eqb, length};
 ghost use Rattle.plan.specs.Plans.{layout_of, plan_check};
 ghost use Rattle.refusals.specs.declared.Check.TheVariants as check;

@@ -1,5 +1,7 @@
 // The command 0D: the fetch list of the marked places, put from its bits.
 // Public for the crates above only.
+#![tactic(auto)]
+
 ghost use Rattle.std.specs.Prelude.{◌≡◌, true, List, ◌∷◌, ℕ, ◌+◌, ◌*◌, ◌/◌, ◌≤◌, ◌<◌, length, take};
 ghost use Rattle.bounds.specs.Bounds.{max_places};
 ghost use Rattle.code.specs.Laws.MarksLaws.{places_of};

@@ -1,5 +1,7 @@
 // The four figures of a plan (01, "Families and figures"): check places, pair figure, neighbour figure, distance.
 // Entry: figures.
+#![tactic(auto)]
+
 ghost use Rattle.plan.specs.Layout.{layout};
 ghost use Rattle.plan.specs.GoodPlan.{GoodPlan};
 ghost use Rattle.code.specs.Figures.{Figures};

@@ -1,5 +1,7 @@
 // A job over lent buffers: its next command is read and performed, and its text written.
 // Entry: perform. take_turn is public for the crates above only.
+#![tactic(auto)]
+
 ghost use Rattle.std.specs.Prelude.{◌≡◌, Bool, true, List, ℕ, length, get_or};
 ghost use Rattle.lines.specs.Lines.{line_length};
 ghost use Rattle.commands.specs.Commands.{size_of, parsed};

@@ -1,6 +1,8 @@
 // The lines of the sheet, written into a lent buffer: one function per kind of line (that of `fetch`, which is put from mark bits, is in the crate fetching).
 // Each line is put at an index of the buffer and answers the next one, so that lines can follow each other. What stands before it and past it is kept.
 // Public for the crates above only.
+#![tactic(auto)]
+
 ghost use Rattle.std.specs.Prelude.{◌≡◌, [], ◌∷◌, ◌+◌, ◌*◌, ◌≤◌, length, take};
 ghost use Rattle.bounds.specs.Bounds.{max_t};
 ghost use Rattle.pieces.specs.Pieces.{Appends};

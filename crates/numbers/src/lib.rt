@@ -1,5 +1,7 @@
 // Answers as numbers of document 01's table, their values through out parameters: the work of the C entry points that is no recovery and no sealing.
 // What each C entry promises is in specs/Entries.antt. Public for the crate capi only.
+#![tactic(auto)]
+
 ghost use Rattle.std.specs.Prelude.{◌≡◌};
 ghost use Rattle.plan.specs.Plans.{count_number, count_value, message_count_of};
 ghost use Rattle.calls.specs.Calls.{counted_of};

@@ -1,5 +1,7 @@
 // The parity symbols of a block that holds a message: erasures that peeling settles, all of them.
 // Public for the crate sealing only: fill_parities.
+#![tactic(auto)]
+
 ghost use Rattle.std.specs.Prelude.{◌≡◌, ◌*◌, ◌≤◌, replicate};
 ghost use Rattle.bounds.specs.Bounds.{max_t};
 ghost use Rattle.plan.specs.Layout.{layout};

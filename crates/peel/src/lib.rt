@@ -1,5 +1,7 @@
 // Peeling: settling erasures row by row, as far as some row has exactly one left.
 // Public for the crates above only.
+#![tactic(auto)]
+
 ghost use Rattle.std.specs.Prelude.{◌≡◌, ◌*◌, ◌<◌};
 ghost use Rattle.plan.specs.Layout.{layout};
 ghost use Rattle.starts.specs.Starts.{Startable};

@@ -1,5 +1,7 @@
 // The pieces of a line: a word, a number, a list of numbers, the line feed. Each is put at an index and answers the next one.
 // Public for the crates above only.
+#![tactic(auto)]
+
 ghost use Rattle.std.specs.Prelude.{[], ◌∷◌, suc, ◌+◌, ◌*◌, ◌≤◌, length, take};
 ghost use Rattle.pieces.specs.Pieces.{decimal, fields, Appends};
 

@@ -1,6 +1,8 @@
 // A plan: n sections of t symbols, each section with its shift. What refuses a plan, and the families of plans.
 // Entries: Plan::check, Plan::raw, Plan::none, Plan::with_shift, Plan::of, Plan::blank, Plan::straight, Plan::powers, Plan::ruler,
 // Plan::message_count, Count::number, Count::value. The module ties and message_places are public for the crates above only.
+#![tactic(auto)]
+
 ghost use Rattle.std.specs.Prelude.{◌≡◌, List, ℕ};
 ghost use Rattle.refusals.specs.Refusals.{check_number};
 ghost use Rattle.shifts.specs.Shifts.{padded};

@@ -1,1 +1,2 @@
 // What recover, encode and message_of promise: specs/Promises.antt. No code.
+#![tactic(auto)]

@@ -1,5 +1,7 @@
 // The text of a turn put on a lent sheet behind those that stand there, and how far the job has come by it.
 // Public for the crate sheet only: put_turn.
+#![tactic(auto)]
+
 ghost use Rattle.std.specs.Prelude.{◌≡◌, ◌≤◌, length};
 ghost use Rattle.putting.specs.Putting.{Put, Fits, Placed};
 

@@ -1,4 +1,6 @@
 // The queue of rows with one erasure left. Public for the crates starts, peel and rounding only.
+#![tactic(auto)]
+
 mod zeros;
 
 ghost use Rattle.std.specs.Prelude.{◌≡◌, ◌+◌, ◌*◌, ◌<◌, ◌≤◌, length};

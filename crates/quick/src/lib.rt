@@ -1,5 +1,7 @@
 // The commands that come by the thousand, 03, 04, 05 and 08, in one loop over numbers: the plan itself is not looked at.
 // Public for the crate streaming only: quick.
+#![tactic(auto)]
+
 ghost use Rattle.std.specs.Prelude.{◌≡◌, List, ℕ, ◌+◌, ◌*◌, ◌≤◌, ◌<◌, length, get_or};
 ghost use Rattle.act.specs.Acts.{block_length, marks_length};
 ghost use Rattle.quick.specs.Quick.{Quiet, Shows, Quick};

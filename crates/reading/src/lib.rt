@@ -1,5 +1,7 @@
 // A job read in parts: the bytes at hand stand in a buffer, and more are read behind them.
 // Entries: begin, carry; reach and lower are public for the crates above only. A cursor whose bounds pass the buffer or each other has only what stands within them at hand.
+#![tactic(auto)]
+
 ghost use Rattle.std.specs.Prelude.{◌≡◌, ◌++◌, ◌-◌, ◌≤◌, min, length, take, drop};
 ghost use Rattle.reading.specs.Cursors.{hand, at_start, carried_of, reach_of};
 

@@ -1,5 +1,7 @@
 // The command 06: recovery of the whole block.
 // Public for the crates above only.
+#![tactic(auto)]
+
 ghost use Rattle.std.specs.Prelude.{◌≡◌, true, ◌*◌, length, take};
 ghost use Rattle.plan.specs.Plans.{layout_of, plan_check};
 ghost use Rattle.refusals.specs.declared.Check.TheVariants as check;

@@ -1,5 +1,7 @@
 // Recovery: a block with erasures is filled, or the answer says why it cannot be.
 // Entry: recover.
+#![tactic(auto)]
+
 ghost use Rattle.std.specs.Prelude.{◌≤◌};
 ghost use Rattle.bounds.specs.Bounds.{max_t};
 ghost use Rattle.plan.specs.Layout.{layout};

@@ -1,5 +1,7 @@
 // What is turned away (01): the refusals in 01's words, each with its number and its place in the order of tests, and the answer of a test: it passes, or stops at a refusal.
 // Entries: Refusal::number, Check::number, Check::earlier.
+#![tactic(auto)]
+
 ghost use Rattle.std.specs.Prelude.{◌≡◌};
 ghost use Rattle.refusals.specs.Refusals.{number_of, check_number, rank_of, first_of};
 ghost use Rattle.refusals.specs.Refusals.{earlier as earlierOf};

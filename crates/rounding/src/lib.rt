@@ -1,6 +1,8 @@
 // The number of peeling rounds that marked places take (document 02, N5), through the queue of rows with one erasure left: the rows that stand in it when a round
 // starts are the round, and those that enter meanwhile wait for the next.
 // Public for the crate recovering only.
+#![tactic(auto)]
+
 ghost use Rattle.std.specs.Prelude.{◌≡◌, ◌*◌, ◌<◌, length, replicate};
 ghost use Rattle.plan.specs.Plans.{layout_of, plan_check};
 ghost use Rattle.plan.specs.Layout.{layout};

@@ -1,5 +1,7 @@
 // The rulers of table I of 002, from 3 to 14 sections.
 // Public for the crates above only.
+#![tactic(auto)]
+
 ghost use Rattle.std.specs.Prelude.{◌≡◌, ◌-◌, ◌≤◌, [], get_or};
 ghost use Rattle.shifts.specs.Shifts.{padded};
 ghost use Rattle.ruler.specs.Ruler.{rulers, ruler_min, ruler_max, ruler_t, ruler_shifts};

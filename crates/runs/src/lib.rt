@@ -1,5 +1,7 @@
 // The runs of message places: of each section the number of its first places that carry the message.
 // Public for the crates above only.
+#![tactic(auto)]
+
 ghost use Rattle.std.specs.Prelude.{◌≡◌, ◌+◌, ◌*◌, ◌/◌, ◌≤◌, map, length, get_or, replicate};
 ghost use Rattle.math.specs.Gcd.{gcd as gcdOf};
 ghost use Rattle.code.specs.Laws.ParityCount.{messages};

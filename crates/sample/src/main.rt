@@ -1,4 +1,6 @@
 // The four results of document 01's example, by the library: loose, recovered, a symbol, crossed.
+#![tactic(auto)]
+
 use answers::Recovery;
 use libc::STDOUT_FILENO;
 use plan::Plan;

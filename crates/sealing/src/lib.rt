@@ -1,5 +1,7 @@
 // Encoding: the codeword that carries a message. And reading the message of a codeword.
 // Entries: encode, message_of. The function reseal is public for the crates above only.
+#![tactic(auto)]
+
 ghost use Rattle.std.specs.Prelude.{◌≡◌, map, ◌*◌, ◌≤◌, length, replicate};
 ghost use Rattle.bounds.specs.Bounds.{max_t};
 ghost use Rattle.plan.specs.Layout.{layout, message_count};

@@ -1,5 +1,7 @@
 // A whole job over one slice: command after command is performed, and what each writes is put on a lent sheet.
 // Entry: run.
+#![tactic(auto)]
+
 ghost use Rattle.std.specs.Prelude.{◌≡◌, List, ℕ, ◌<◌, length};
 ghost use Rattle.lines.specs.Lines.{line_length};
 ghost use Rattle.act.specs.Acts.{Kept, state_of};

@@ -1,5 +1,7 @@
 // The shifts of a plan: the test that each is below t, the arrays of 32 that hold them, and the divisor g.
 // Entry: gcd. The rest is public for the crates above only.
+#![tactic(auto)]
+
 ghost use Rattle.std.specs.Prelude.{◌≡◌, map, ◌+◌, ◌*◌, ◌^◌, ◌%◌, ◌<◌, ◌≤◌, length};
 ghost use Rattle.math.specs.Members.{up_to};
 ghost use Rattle.math.specs.Gcd.{gcd as gcdOf, gap as gap_of, gcd_all};

@@ -1,5 +1,7 @@
 // Whole slices of bytes and of 16-bit words: cleared, copied, tested for zeros.
 // Public for the crates above only.
+#![tactic(auto)]
+
 ghost use Rattle.std.specs.Prelude.{◌≡◌, length, replicate};
 ghost use Rattle.slices.specs.Zeros.{all_zero};
 

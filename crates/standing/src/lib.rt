@@ -1,5 +1,7 @@
 // What refuses the lent state of a job, by the tests of every call: 1 and 2 where a plan is held, then 3, then 4.
 // Public for the crates above only.
+#![tactic(auto)]
+
 ghost use Rattle.std.specs.Prelude.{◌≡◌};
 ghost use Rattle.standing.specs.Standing.{buffers_fit, state_check, held_check};
 

@@ -1,4 +1,6 @@
 // The rows to start from, by the marks: where few places are marked, their rows are far fewer than all rows. Public for the crate peel only.
+#![tactic(auto)]
+
 ghost use Rattle.std.specs.Prelude.{◌≡◌, ◌+◌, ◌*◌, ◌≤◌, ◌<◌, length};
 ghost use Rattle.code.specs.Marks.{mark};
 ghost use Rattle.bits.specs.Words.{Word};

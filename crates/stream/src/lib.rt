@@ -1,5 +1,7 @@
 // A job that is read in parts of any size: how far it has come, and what it wants. The crate streaming works on it.
 // Entry: Ask::number.
+#![tactic(auto)]
+
 ghost use Rattle.std.specs.Prelude.{◌≡◌};
 ghost use Rattle.stream.specs.Streams.{ask_number};
 

@@ -1,6 +1,8 @@
 // A job that is read in parts of any size: commands are performed as their bytes come, and the sheet is written out as it fills.
 // A program reads and writes what it is asked to and hands the outcome back; it owns no number.
 // Entries: opened, work, waiting, written, room, brought.
+#![tactic(auto)]
+
 ghost use Rattle.std.specs.Prelude.{◌≡◌, ◌&&◌, not, ◌+◌, ◌^◌, ◌<◌, min, length, take};
 ghost use Rattle.refusals.specs.declared.Check.TheVariants as check;
 ghost use Rattle.stream.specs.Streams.{opened_at, stream_fits, stream_check, ask_of, with_cursor, tidy, tidy_input, phase_after, moved_of, written_of, lost_of, read_of, taken_of, brought_of};

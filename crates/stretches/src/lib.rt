@@ -1,4 +1,6 @@
 // The mark bits of a buffer, over any stretch of places: counted, and tested that none is set. Public for the crates above only.
+#![tactic(auto)]
+
 ghost use Rattle.std.specs.Prelude.{◌≡◌, ◌+◌, ◌*◌, ◌/◌, ◌%◌, ◌^◌, ◌≤◌, ◌<◌, length, get_or};
 ghost use Rattle.std.specs.Int.Count.{ones};
 ghost use Rattle.bounds.specs.Bounds.{max_places};

@@ -1,5 +1,7 @@
 // The sums of all rows of a block: of the top rows up to eight sections at a time, of the bottom rows up to two.
 // Public for the crates above only.
+#![tactic(auto)]
+
 ghost use Rattle.std.specs.Prelude.{◌≡◌, ◌*◌, ◌≤◌, ◌<◌, length, replicate};
 ghost use Rattle.plan.specs.GoodPlan.{GoodPlan};
 ghost use Rattle.sums.specs.SumLaws.{Xored, with_two, added, straight, turned, turned_by, turned_two, Taken, Turns, Syndromes};

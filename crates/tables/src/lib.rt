@@ -1,5 +1,7 @@
 // The row tables of a block with erasures: for each row its sum, and the tally of the erasures left on it.
 // Public for the crates above only.
+#![tactic(auto)]
+
 ghost use Rattle.std.specs.Prelude.{◌≡◌, ◌*◌, length};
 ghost use Rattle.plan.specs.Layout.{layout};
 ghost use Rattle.code.specs.Marks.{erasures};

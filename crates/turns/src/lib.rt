@@ -1,5 +1,7 @@
 // One turn of a job: what comes of it, and the turns that perform no command.
 // Entries: Turn::number, start. The rest is public for the crates above only.
+#![tactic(auto)]
+
 ghost use Rattle.std.specs.Prelude.{◌≡◌, Bool, List, ℕ, length};
 ghost use Rattle.lines.specs.Lines.{line_length};
 ghost use Rattle.refusals.specs.declared.Check.TheVariants as check;

@@ -1,5 +1,7 @@
 // A block that is whole: as it stands, or once the settled values are added.
 // Public for the crates deciding and recovery only: intact, put_in, recovered.
+#![tactic(auto)]
+
 ghost use Rattle.std.specs.Prelude.{◌≡◌, ◌*◌, length, replicate};
 ghost use Rattle.tables.specs.Scan.{Lent};
 ghost use Rattle.settling.specs.Fill.{Fillable, filled};

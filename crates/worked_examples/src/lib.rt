@@ -1,1 +1,2 @@
 // No code: specs/ proves the specimen table of the code's rules.
+#![tactic(auto)]

@@ -1,1 +1,2 @@
 // No code: the specimen table with 01's sample job and its sheet stands in specs/.
+#![tactic(auto)]

@@ -1,0 +1,12 @@
+-- `slices::copy_bytes` meets its contract. The loop's invariant: the first i bytes are copied. Assumes nothing.
+use mathlib.Core.Path.{◌≡◌}
+use mathlib.Core.List.{◌++◌}
+use Prim.Native.Nat.{◌-◌, ◌≤◌}
+use lib.ListN.{length, take, drop}
+use Rattle.slices.proofs.copy_bytes.Given as goal
+
+abbrev pub invariant-loop-i : goal.invariant-loop-i
+invariant-loop-i l = (l.i ≤ length l.initial.into) × (length l.into ≡ length l.initial.into) × (l.into ≡ take l.i l.from ++ drop l.i l.initial.into)
+
+abbrev pub decreases-loop-i : goal.decreases-loop-i
+decreases-loop-i l = length l.initial.into - l.i
