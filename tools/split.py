@@ -100,6 +100,32 @@ def undeclare(folder, module):
         write(lib, t)
 
 
+def pruned(uses, body, pub):
+    """The import lines that the body needs."""
+    code = re.sub(r"(?m)(?<!\S)--.*$", "", body)
+    words = set(re.findall(WORD, code))
+    out = []
+    for u in uses:
+        if u.startswith("pub use"):
+            out.append(u if pub else u[4:])
+            continue
+        m = re.match(r"((?:unfoldable pub )?use [^{\s]+?)\.?\{(.*)\}\s*$", u)
+        if not m:
+            last = re.split(r"[.\s]", u.strip())[-1]
+            if re.search(rf"(?<![\w.]){re.escape(last)}\.", code):
+                out.append(u)
+            continue
+        keep = []
+        for it in (i.strip() for i in m[2].split(",")):
+            word = it.split(" as ")[-1].strip("«» ")
+            bits = [q for q in word.split("◌") if q]
+            if word in words or ("◌" in word and all(q in code for q in bits)):
+                keep.append(it)
+        if keep:
+            out.append(f"{m[1]}.{{{', '.join(keep)}}}")
+    return out
+
+
 def main(crate, wanted):
     specs, proofs = f"crates/{crate}/specs", f"crates/{crate}/proofs"
     moved = {}  # module -> None (whole) or the set of names that moved
@@ -126,12 +152,17 @@ def main(crate, wanted):
         names = set().union(*(i[1] for i in defs)) if defs else set()
         gone = set().union(*(i[1] for i in laws)) if laws else set()
         text = lambda part: "\n".join("\n".join(i[2]) for i in part).strip("\n")
-        write(src, "\n".join(comment + uses + ["", text(defs), ""]))
+        short = comment
+        for i, l in enumerate(comment):
+            if l.startswith("-- Main results"):
+                short = comment[:i]
+                break
+        write(src, "\n".join(short + pruned(uses, text(defs), True) + ["", text(defs), ""]))
         body = text(laws)
         words = set(re.findall(WORD, re.sub(r"(?m)(?<!\S)--.*$", "", body)))
         used = sorted(n for n in names if n in words)
         own = [f"use Rattle.{crate}.specs.{m}.{{{', '.join(used)}}}"] if used else []
-        write(dst, "\n".join([comment[0] if comment else "-- Laws."] + uses + own + ["", body, ""]))
+        write(dst, "\n".join(comment + pruned(uses, body, False) + own + ["", body, ""]))
         declare(proofs, m)
         moved[m] = gone
     for p in sorted(glob.glob("crates/**/*.antt", recursive=True) + glob.glob("crates/**/*.rt", recursive=True)):
@@ -157,11 +188,13 @@ def main(crate, wanted):
 
             t = re.sub(rf"(?m)^([ \w]*)use {path}\.\{{([^}}]*)\}}(;?)$", one, t)
             if re.search(rf"use {path}(?!\.\{{)(?![\w.])", t):
-                print(f"look: {p}: takes the module {m}")
+                taken = set(re.findall(rf"(?<![\w.]){m.split('.')[-1]}\.({WORD})", re.sub(rf"use {path}.*", "", t)))
+                if taken & gone and taken - gone:
+                    print(f"look: {p}: takes the module {m}: {taken}")
+                elif taken & gone:
+                    t = re.sub(rf"use {path}(?!\.\{{)(?![\w.])", f"use Rattle.{crate}.proofs.{m}", t)
         if t != old:
             write(p, t)
-            if f"/{crate}/specs/" in p and re.search(rf"Rattle\.{crate}\.proofs\.", t):
-                print(f"look: {p}: specs/ names its own proofs/")
 
 
 if __name__ == "__main__":

@@ -1,8 +1,3 @@
 -- Single commands of a job: what each means, and the state over lent buffers.
 pub mod Meaning
 pub mod Acts
-pub mod RecoveringLaws
-pub mod StateLaws
-pub mod ActLaws
-pub mod MeaningOnce
-pub mod ActsOnce

@@ -1,3 +1,2 @@
 -- The answers of recover, encode, message_of and fetch: their numbers and values.
 pub mod Answers
-pub mod AnswerLaws

@@ -8,7 +8,7 @@ use Rattle.std.specs.Int.Bits.{bit_and, shifted_even}
 use Rattle.std.proofs.lemmas.Nat.{and_le_r, shl-shr}
 use Rattle.std.specs.Int.Count.{count_trailing_zeros, under}
 use Rattle.code.specs.Codewords.{bit_of}
-use Rattle.code.specs.Laws.MarksLaws.{bit_zero, bit_suc, bit_and_lem}
+use Rattle.code.proofs.Laws.MarksLaws.{bit_zero, bit_suc, bit_and_lem}
 
 -- by the lowest bit d of n, and t, the zeros of its half
 below_step : (n d t b : ℕ) → n % 2 ≡ d → ((c : ℕ) → c < t → bit_of c (n / 2) ≡ 0) → b < under d t → bit_of b n ≡ 0

@@ -12,7 +12,8 @@ use Rattle.std.proofs.Math.Pow.{pow-lt}
 use Rattle.code.specs.Codewords.{bit_of}
 use Rattle.plan.specs.Layout.{Layout}
 use Rattle.code.specs.Marks.{mark, NoSpare}
-use Rattle.code.specs.Laws.MarksLaws.{Puts, bit_not, mark_none, set_mark, clear_mark}
+use Rattle.code.specs.Laws.MarksLaws.{Puts}
+use Rattle.code.proofs.Laws.MarksLaws.{bit_not, mark_none, set_mark, clear_mark}
 use Rattle.bits.specs.Bits.{Marked}
 
 -- ---- bytes

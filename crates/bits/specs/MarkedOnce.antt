@@ -4,7 +4,7 @@ use Rattle.std.specs.Prelude.{◌≡◌, List, ℕ, ◌+◌}
 use Rattle.std.proofs.Common.{sym, ◌∙◌, inl, inr, arith}
 use Rattle.std.proofs.Math.Logic.{by_cases}
 use Rattle.std.proofs.Math.Decide.{dec_lt}
-use Rattle.code.specs.Laws.MarksLaws.{same_marks}
+use Rattle.code.proofs.Laws.MarksLaws.{same_marks}
 use Rattle.bits.specs.Bits.{Marked}
 
 -- "mark m places from c": the marks after it are one list

@@ -9,7 +9,7 @@ use Rattle.std.specs.Int.Bits.{bit_or}
 use Rattle.std.proofs.Math.Pow.{field, mod-mod-pow}
 use Rattle.code.specs.Codewords.{bit_of}
 use Rattle.code.specs.Marks.{mark}
-use Rattle.code.specs.Laws.MarksLaws.{mark_at, mark_bit, bit_not, bit_or_lem}
+use Rattle.code.proofs.Laws.MarksLaws.{mark_at, mark_bit, bit_not, bit_or_lem}
 use Rattle.bits.specs.Bits.{Marked}
 use Rattle.bits.specs.Lowest.{bit_shifted, bit_raised, bit_under, bit_beyond}
 use Rattle.bits.specs.MarkedLaws.{Bytes}

@@ -13,7 +13,7 @@ use Rattle.math.specs.Sums.{only}
 use Rattle.math.specs.SumsLaws.{only_true, only_false}
 use Rattle.code.specs.Codewords.{bit_of}
 use Rattle.code.specs.Marks.{mark}
-use Rattle.code.specs.Laws.MarksLaws.{mark_at, bit_or_lem}
+use Rattle.code.proofs.Laws.MarksLaws.{mark_at, bit_or_lem}
 use Rattle.bits.specs.Lowest.{bit_shifted, bit_raised, bit_under, bit_beyond}
 
 -- the bits of w are the marks of the 64 places from c on, those below place a left out

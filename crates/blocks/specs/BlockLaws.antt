@@ -7,13 +7,14 @@ use Rattle.std.proofs.Math.ListN.{drop, replicate}
 use Rattle.std.proofs.Math.Seq.{length_front}
 use Rattle.plan.specs.Layout.{layout, message_count}
 use Rattle.plan.specs.Plans.{layout_of}
-use Rattle.plan.specs.PlanLaws.{good_valid}
+use Rattle.plan.proofs.PlanLaws.{good_valid}
 use Rattle.code.specs.Codewords.{at}
 use Rattle.code.specs.Marks.{mark_bytes, NoSpare}
 use Rattle.code.specs.Messages.{Carries}
-use Rattle.code.specs.Laws.ParityCount.{messages, message_lists}
+use Rattle.code.specs.Laws.ParityCount.{messages}
+use Rattle.code.proofs.Laws.ParityCount.{message_lists}
 use Rattle.code.specs.Figures as code
-use Rattle.promises.specs.Numbers.{message_count_is}
+use Rattle.promises.proofs.Numbers.{message_count_is}
 use Rattle.lines.specs.Lines.{line, figures_word, sealed_word}
 use Rattle.commands.specs.declared.Command.TheVariants.{Recover, Seal, Figures}
 use Rattle.state.specs.State.{with_block}
@@ -21,7 +22,7 @@ use Rattle.bits.specs.MarkedLaws.{no_marks_no_spare}
 use Rattle.act.specs.Meaning.{Means, Recovering}
 use Rattle.act.specs.Acts.{state_of, Kept, Rest, Acts}
 use Rattle.blocks.specs.Wholes.{Whole, Recovered, whole}
-use Rattle.act.specs.StateLaws.{places_most, bytes_most, part_back, part_rest}
+use Rattle.act.proofs.StateLaws.{places_most, bytes_most, part_back, part_rest}
 use Rattle.act.specs.declared.Held.{Held}
 
 pub figured : {h : Held} {v m : List ℕ} → Kept h v m → (a b c d : ℕ) → code.Figures (layout_of h.plan) a b c d →

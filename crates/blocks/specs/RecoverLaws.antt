@@ -10,17 +10,17 @@ use Rattle.math.specs.Padded.{padded}
 use Rattle.plan.specs.Layout.{layout}
 use Rattle.bounds.specs.Bounds.{max_t}
 use Rattle.plan.specs.Plans.{layout_of, plan_check, count_of, count_value}
-use Rattle.plan.specs.PlanLaws.{good_bounds, good_valid}
+use Rattle.plan.proofs.PlanLaws.{good_bounds, good_valid}
 use Rattle.plan.specs.declared.Plan.{Plan}
 use Rattle.code.specs.Marks.{mark_bytes, NoSpare, erasures}
 use Rattle.code.specs.Rounds.{Rounds}
 use Rattle.code.specs.Laws.Forest.{Forest}
-use Rattle.code.specs.Laws.MarksLaws.{erasures_erased}
+use Rattle.code.proofs.Laws.MarksLaws.{erasures_erased}
 use Rattle.calls.specs.Calls.{counted_of}
 use Rattle.refusals.specs.declared.Check.{Check}
 use Rattle.refusals.specs.declared.Check.TheVariants.{Pass}
 use Rattle.promises.specs.Promises.{Decides, Recovers}
-use Rattle.promises.specs.Building.{count_passes, recover_passes, decided_forest}
+use Rattle.promises.proofs.Building.{count_passes, recover_passes, decided_forest}
 use Rattle.answers.specs.Answers.{recovery_number, recovery_count}
 use Rattle.refusals.specs.Refusals.{number_of}
 use Rattle.refusals.specs.declared.Refusal.TheVariants as refusal
@@ -29,7 +29,7 @@ use Rattle.answers.specs.declared.Recovery.TheVariants as recovery
 use Rattle.lines.specs.Lines.{line, recovered_word, rounds_word, loose_word, crossed_word}
 use Rattle.state.specs.State.{with_block}
 use Rattle.bits.specs.MarkedLaws.{no_marks_no_spare}
-use Rattle.act.specs.RecoveringLaws.{recovering_by, loose_took, crossed_took}
+use Rattle.act.proofs.RecoveringLaws.{recovering_by, loose_took, crossed_took}
 use Rattle.blocks.specs.Wholes.{Whole, Recovered, whole}
 
 -- the front part of an array of zeros, lent as the witness

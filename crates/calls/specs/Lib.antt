@@ -1,3 +1,2 @@
 -- What refuses a call, and the count of marks.
 pub mod Calls
-pub mod CallsLaws

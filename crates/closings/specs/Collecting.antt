@@ -10,8 +10,9 @@ use Rattle.code.specs.Marks.{mark, erasures, BitsOf}
 use Rattle.code.specs.Components.{Connected}
 use Rattle.code.specs.FetchList.{FetchBits}
 use Rattle.code.specs.Laws.Forest.{Erased}
-use Rattle.code.specs.Laws.MarksLaws.{erasures_erased, mark_bit, bits_none, bits_more}
-use Rattle.code.specs.Laws.Closings.{closings, closings_exact, closings_fetch, rising_closings}
+use Rattle.code.proofs.Laws.MarksLaws.{erasures_erased, mark_bit, bits_none, bits_more}
+use Rattle.code.specs.Laws.Closings.{closings}
+use Rattle.code.proofs.Laws.Closings.{closings_exact, closings_fetch, rising_closings}
 use Rattle.bits.specs.Bits.{Marked}
 use Rattle.bits.specs.MarkedLaws.{marked_puts}
 use Rattle.tables.specs.Spots.{Stands}

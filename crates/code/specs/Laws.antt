@@ -1,27 +1,8 @@
 -- The laws behind the theorems.
-pub mod Basics
 pub mod Forest
 pub mod Labels
-pub mod Balance
-pub mod Unique
 pub mod Roots
-pub mod Settle
-pub mod Matrix
 pub mod MarksLaws
-pub mod Paths
-pub mod CycleLaws
-pub mod CycleUnique
-pub mod WholeGraph
 pub mod Spanning
 pub mod Closings
-pub mod Sections
 pub mod ParityCount
-pub mod ClosedForm
-pub mod Carrying
-pub mod Decide
-pub mod Pairs
-pub mod Distance
-pub mod Rulers
-pub mod Fetched
-pub mod Leaves
-pub mod RoundsLaws

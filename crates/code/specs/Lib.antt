@@ -9,6 +9,4 @@ pub mod Messages
 pub mod FetchList
 pub mod Figures
 pub mod Rounds
-pub mod Theorems
-pub mod FiguresOnce
 pub mod Laws

@@ -17,8 +17,9 @@ use Rattle.plan.specs.Layout.{Layout}
 use Rattle.code.specs.Places.{rows}
 use Rattle.code.specs.Codewords.{at, syndrome, blank}
 use Rattle.code.specs.Components.{Component, Inconsistent, imbalance}
-use Rattle.code.specs.Laws.Labels.{label, label_idem, label_lt, component_of, component_of_first, component_is, component_unique, component_label}
-use Rattle.code.specs.Laws.Balance.{class_sum, class_sum_component, class_sum_rows}
+use Rattle.code.specs.Laws.Labels.{label, component_of}
+use Rattle.code.proofs.Laws.Labels.{label_idem, label_lt, component_of_first, component_is, component_unique, component_label}
+use Rattle.code.proofs.Laws.Balance.{class_sum, class_sum_component, class_sum_rows}
 use Rattle.math.specs.Padded.{padded}
 use Rattle.components.specs.Lists.{total_of, Adds, First, gathered, Gathers}
 use Rattle.components.specs.declared.sums.Rows.{Rows}

@@ -12,10 +12,11 @@ use Rattle.math.specs.MembersLaws.{∈_up_to}
 use Rattle.plan.specs.Layout.{Layout, layout, top, bottom, bottom_row}
 use Rattle.code.specs.Marks.{mark, erasures}
 use Rattle.code.specs.Laws.Forest.{Forest, forest_none}
-use Rattle.code.specs.Laws.Basics.{places_∈, ∈_places}
-use Rattle.code.specs.Laws.MarksLaws.{in_erasures, rising_erasures, mark_bit}
+use Rattle.code.proofs.Laws.Basics.{places_∈, ∈_places}
+use Rattle.code.proofs.Laws.MarksLaws.{in_erasures, rising_erasures, mark_bit}
 use Rattle.bits.specs.Words.{Clear}
-use Rattle.tables.specs.Spots.{Stands, stands_inside, stands_top, stands_bottom}
+use Rattle.tables.specs.Spots.{Stands}
+use Rattle.tables.proofs.Spots.{stands_inside, stands_top, stands_bottom}
 use Rattle.tables.specs.declared.walk.Spot.{Spot}
 use Rattle.components.specs.Parents.{Falls, Unites, Own}
 use Rattle.components.specs.Gaps.{Gap}

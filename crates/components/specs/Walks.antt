@@ -14,7 +14,8 @@ use Rattle.plan.specs.Layout.{Layout, top, bottom}
 use Rattle.code.specs.Places.{Meets}
 use Rattle.code.specs.Components.{Connected, here, along}
 use Rattle.code.specs.Laws.Forest.{Forest, forest_more, above}
-use Rattle.code.specs.Laws.Labels.{label, label_connected, connected_label, label_place, label_le, label_idem, connected_more, connected_own}
+use Rattle.code.specs.Laws.Labels.{label}
+use Rattle.code.proofs.Laws.Labels.{label_connected, connected_label, label_place, label_le, label_idem, connected_more, connected_own}
 use Rattle.tables.specs.Spots.{Stands}
 use Rattle.components.specs.Parents.{Falls, Along, Same, Settled, Unites, United, Joint, Apart}
 use Rattle.components.specs.declared.walk.Closing.{Closing}

@@ -17,15 +17,16 @@ use Rattle.code.specs.Cycles.{Cycle, Lowest}
 use Rattle.code.specs.Components.{Connected}
 use Rattle.code.specs.Rounds.{on_row}
 use Rattle.code.specs.Laws.Forest.{Erased, Forest, above}
-use Rattle.code.specs.Laws.Basics.{meets_row, syndrome_zero}
-use Rattle.code.specs.Laws.Paths.{∈_above, erased_above, path}
-use Rattle.code.specs.Laws.CycleLaws.{cycle_length, forest_no_cycle}
-use Rattle.code.specs.Laws.MarksLaws.{erasures_erased}
-use Rattle.code.specs.Laws.Leaves.{forest_sub}
+use Rattle.code.proofs.Laws.Basics.{meets_row, syndrome_zero}
+use Rattle.code.proofs.Laws.Paths.{∈_above, erased_above, path}
+use Rattle.code.proofs.Laws.CycleLaws.{cycle_length, forest_no_cycle}
+use Rattle.code.proofs.Laws.MarksLaws.{erasures_erased}
+use Rattle.code.proofs.Laws.Leaves.{forest_sub}
 use Rattle.tables.specs.Picture.{weight, Counted, Picture, Stuck}
 use Rattle.tables.specs.Spots.{Stands}
 use Rattle.tables.specs.Sizes.{good_∈}
-use Rattle.tables.specs.Counting.{from_place, in_from, from_in}
+use Rattle.tables.specs.Counting.{from_place}
+use Rattle.tables.proofs.Counting.{in_from, from_in}
 use Rattle.tables.specs.StuckLaws.{twos, met_two, cycle_survives, cycle_into, top_next, bottom_next, last_next}
 use Rattle.peel.specs.Peels.{Peelable, Peels, Peeled}
 use Rattle.math.specs.Padded.{padded}

@@ -10,11 +10,13 @@ use Rattle.plan.specs.Layout.{layout, top, bottom, bottom_row}
 use Rattle.plan.specs.GoodPlan.{GoodPlan, plan_valid}
 use Rattle.code.specs.Places.{Meets}
 use Rattle.code.specs.Codewords.{at}
-use Rattle.code.specs.Laws.Basics.{meets_row}
+use Rattle.code.proofs.Laws.Basics.{meets_row}
 use Rattle.tables.specs.Picture.{tally_unit, weight}
 use Rattle.tables.specs.Sizes.{∈_good}
-use Rattle.tables.specs.Spots.{Stands, stands_section, stands_inside, stands_top, stands_bottom}
-use Rattle.tables.specs.Beside.{Beside, beside_offset, beside_place}
+use Rattle.tables.specs.Spots.{Stands}
+use Rattle.tables.proofs.Spots.{stands_section, stands_inside, stands_top, stands_bottom}
+use Rattle.tables.specs.Beside.{Beside}
+use Rattle.tables.proofs.Beside.{beside_offset, beside_place}
 
 -- ---- the other place on a row
 

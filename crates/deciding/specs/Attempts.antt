@@ -11,32 +11,33 @@ use Rattle.math.specs.Members.{◌∈◌}
 use Rattle.math.specs.MembersLaws.{dec_in}
 use Rattle.plan.specs.Layout.{Layout, Valid, layout, top}
 use Rattle.plan.specs.Plans.{layout_of}
-use Rattle.plan.specs.PlanLaws.{good_bounds}
+use Rattle.plan.proofs.PlanLaws.{good_bounds}
 use Rattle.plan.specs.declared.Plan.{Plan}
 use Rattle.plan.specs.GoodPlan.{plan_valid}
 use Rattle.code.specs.Places.{places}
 use Rattle.code.specs.Codewords.{at, Agrees, None}
 use Rattle.code.specs.Marks.{mark_bytes, erasures}
 use Rattle.code.specs.Laws.Forest.{Erased, Forest}
-use Rattle.code.specs.Laws.Basics.{places_∈, syndrome_ext}
-use Rattle.code.specs.Laws.MarksLaws.{erasures_erased}
-use Rattle.code.specs.Laws.Leaves.{length_on_row_le}
+use Rattle.code.proofs.Laws.Basics.{places_∈, syndrome_ext}
+use Rattle.code.proofs.Laws.MarksLaws.{erasures_erased}
+use Rattle.code.proofs.Laws.Leaves.{length_on_row_le}
 use Rattle.tables.specs.Picture.{weight, Counted, Picture}
 use Rattle.tables.specs.Sizes.{∈_good}
-use Rattle.tables.specs.Counting.{from_place, from_zero}
+use Rattle.tables.specs.Counting.{from_place}
+use Rattle.tables.proofs.Counting.{from_zero}
 use Rattle.tables.specs.Scan.{Lent}
 use Rattle.sums.specs.SumLaws.{Syndromes}
 use Rattle.cycle.specs.Shows.{Room}
-use Rattle.tables.specs.Bounds.{tally_some, tally_none}
+use Rattle.tables.proofs.Bounds.{tally_some, tally_none}
 use Rattle.tables.specs.StuckLaws.{stuck_none}
 use Rattle.peel.specs.Peels.{Peelable, Peeled, Peels}
 use Rattle.starts.specs.Starts.{Startable}
 use Rattle.settling.specs.Fill.{filled, Fillable, filled_long, filled_out, filled_at, clean_of, clean_zero, zero_clean}
 use Rattle.calls.specs.Calls.{check_of}
-use Rattle.calls.specs.CallsLaws.{pass_good, pass_spare}
+use Rattle.calls.proofs.CallsLaws.{pass_good, pass_spare}
 use Rattle.refusals.specs.declared.Check.TheVariants.{Pass}
 use Rattle.promises.specs.Promises.{Decides, Recovers, recover_lent}
-use Rattle.promises.specs.Building.{decides_recovered, recovers_passed, recover_lengths}
+use Rattle.promises.proofs.Building.{decides_recovered, recovers_passed, recover_lengths}
 use Rattle.answers.specs.declared.Recovery.{Recovery}
 use Rattle.answers.specs.declared.Recovery.TheVariants.{Recovered}
 use Rattle.tables.specs.Zeros.{Zeros, zeros_of, zeros_room, zeros_part}

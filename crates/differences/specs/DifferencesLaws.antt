@@ -14,7 +14,7 @@ use Rattle.bounds.specs.Bounds.{max_t}
 use Rattle.math.specs.MembersLaws.{∈_up_to, up_to_∈}
 use Rattle.plan.specs.Layout.{layout}
 use Rattle.code.specs.Figures.{Pair, Ruler}
-use Rattle.code.specs.Laws.Pairs.{zero_at}
+use Rattle.code.proofs.Laws.Pairs.{zero_at}
 use Rattle.differences.specs.Differences.{difference_of, Before, Met, Marked, Fresh, RowDone, KeepsRule}
 
 -- the difference by its two cases

@@ -6,7 +6,7 @@ use Rattle.math.specs.Gcd.{gcd_all}
 use Rattle.plan.specs.Layout.{layout, divisor}
 use Rattle.shifts.specs.Shifts.{gaps}
 use Rattle.plan.specs.Plans.{raw_plan, layout_of}
-use Rattle.plan.specs.PlanLaws.{divisor_is}
+use Rattle.plan.proofs.PlanLaws.{divisor_is}
 use Rattle.plan.specs.GoodPlan.{GoodPlan}
 use Rattle.differences.specs.Sections.{TwoOf}
 

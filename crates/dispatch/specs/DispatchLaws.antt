@@ -6,7 +6,7 @@ use Rattle.refusals.specs.declared.Check.TheVariants.{Pass}
 use Rattle.commands.specs.declared.Command.{Command}
 use Rattle.commands.specs.declared.Command.TheVariants.{SetShift}
 use Rattle.lines.specs.Lines.{Wrote}
-use Rattle.lines.specs.LinesLaws.{wrote_none}
+use Rattle.lines.proofs.LinesLaws.{wrote_none}
 use Rattle.state.specs.State.{State}
 use Rattle.state.specs.Refusing.{refusal_of}
 use Rattle.act.specs.Acts.{state_of, Acts}

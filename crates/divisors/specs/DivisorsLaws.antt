@@ -7,7 +7,7 @@ use Rattle.std.proofs.Math.Logic.{by_cases}
 use native.Mathlib.Omega.{arith}
 use Rattle.std.proofs.Math.Decide.{dec_lt, ℕ_discrete}
 use Rattle.math.specs.Gcd.{gcd, gap}
-use Rattle.math.specs.GcdLaws.{gcd_pos, gcd_le, gap_comm}
+use Rattle.math.proofs.GcdLaws.{gcd_pos, gcd_le, gap_comm}
 use Rattle.math.specs.MembersLaws.{∈_up_to, up_to_∈}
 use Rattle.plan.specs.Layout.{layout}
 use Rattle.code.specs.Figures.{Pair, Neighbours, pair_number, Capability, Least}

@@ -12,9 +12,9 @@ use Rattle.code.specs.Places.{places}
 use Rattle.code.specs.Codewords.{at, syndrome, blank, Agrees, None}
 use Rattle.code.specs.Marks.{erasures}
 use Rattle.code.specs.Laws.Forest.{Erased, Forest}
-use Rattle.code.specs.Laws.Balance.{class_sum, class_sum_component, class_sum_ext, blank_outside, exists}
+use Rattle.code.proofs.Laws.Balance.{class_sum, class_sum_component, class_sum_ext, blank_outside, exists}
 use Rattle.code.specs.Laws.Labels.{label, component_of}
-use Rattle.code.specs.Laws.MarksLaws.{erasures_erased}
+use Rattle.code.proofs.Laws.MarksLaws.{erasures_erased}
 use Rattle.tables.specs.Scan as Scan
 use Rattle.tables.specs.Spots.{Stands}
 use Rattle.tables.specs.declared.walk.Spot.{Spot}
@@ -27,7 +27,7 @@ use Rattle.components.specs.declared.sums.Rows.{Rows}
 use Rattle.components.specs.declared.sums.Rows.TheVariants as rows
 use Rattle.cycle.specs.Shows as cycle
 use Rattle.promises.specs.Promises.{Decides}
-use Rattle.promises.specs.Building.{decides_loose, decides_crossed}
+use Rattle.promises.proofs.Building.{decides_loose, decides_crossed}
 use Rattle.answers.specs.declared.Recovery.{Recovery}
 use Rattle.answers.specs.declared.Recovery.TheVariants.{Crossed, Loose}
 

@@ -10,18 +10,19 @@ use Rattle.plan.specs.Plans.{layout_of, plan_check}
 use Rattle.plan.specs.declared.Plan.{Plan}
 use Rattle.code.specs.Marks.{mark_bytes, NoSpare, erasures}
 use Rattle.code.specs.FetchList.{FetchList, FetchBits}
-use Rattle.code.specs.Laws.Basics.{places_∈}
-use Rattle.code.specs.Laws.MarksLaws.{in_erasures, places_of, bits_list}
-use Rattle.calls.specs.CallsLaws.{also_passes}
+use Rattle.code.proofs.Laws.Basics.{places_∈}
+use Rattle.code.specs.Laws.MarksLaws.{places_of}
+use Rattle.code.proofs.Laws.MarksLaws.{in_erasures, bits_list}
+use Rattle.calls.proofs.CallsLaws.{also_passes}
 use Rattle.answers.specs.Answers.{fetching_count}
 use Rattle.answers.specs.declared.Fetching.{Fetching}
 use Rattle.promises.specs.Promises.{Fetches, fetch_check}
-use Rattle.promises.specs.Building.{count_passes}
+use Rattle.promises.proofs.Building.{count_passes}
 use Rattle.lines.specs.Lines.{line, fetch_word}
 use Rattle.commands.specs.declared.Command.TheVariants.{Fetch}
 use Rattle.act.specs.Meaning.{Means}
 use Rattle.act.specs.Acts.{state_of, Kept, Acts}
-use Rattle.act.specs.StateLaws.{bytes_most}
+use Rattle.act.proofs.StateLaws.{bytes_most}
 use Rattle.act.specs.declared.Held.{Held}
 use Rattle.fetching.specs.Places.{places_few}
 

@@ -9,7 +9,8 @@ use Rattle.math.specs.Members.{keep, from}
 use Rattle.math.specs.MembersLaws.{keep_∈, keep_append, length_keep_le, length_from, from_∈, from_append}
 use Rattle.math.specs.Pigeonhole.{get_or_∈}
 use Rattle.code.specs.Marks.{mark}
-use Rattle.code.specs.Laws.MarksLaws.{mark_bit, places_of}
+use Rattle.code.specs.Laws.MarksLaws.{places_of}
+use Rattle.code.proofs.Laws.MarksLaws.{mark_bit}
 use Rattle.pieces.specs.Pieces.{decimal, fields, Appends}
 use Rattle.pieces.specs.PiecesLaws.{appends_none, appends_both, fields_append, fields_one, fields_length}
 

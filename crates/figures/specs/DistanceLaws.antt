@@ -9,14 +9,14 @@ use native.Mathlib.Omega.{arith}
 use Rattle.std.proofs.Math.Nat.{le_of_dvd, mul-div_cancel', mul-div_assoc, div-le_self}
 use Rattle.std.proofs.Math.Decide.{ℕ_discrete, dec_lt}
 use Rattle.math.specs.Gcd.{gcd, gap}
-use Rattle.math.specs.GcdLaws.{gcd_pos, gcd_le, gcd_dvd_left, gcd_dvd_right, gcd_zero_left, gap_comm, gap_self, gap_zero}
+use Rattle.math.proofs.GcdLaws.{gcd_pos, gcd_le, gcd_dvd_left, gcd_dvd_right, gcd_zero_left, gap_comm, gap_self, gap_zero}
 use Rattle.math.specs.Members.{up_to, from}
 use Rattle.math.specs.MembersLaws.{up_to_∈, length_up_to}
 use Rattle.bounds.specs.Bounds.{max_t}
 use Rattle.plan.specs.Layout.{Layout, layout}
 use Rattle.plan.specs.GoodPlan.{GoodPlan, plan_valid}
 use Rattle.code.specs.Figures.{Least, Pair, pair_number, Capability, NonzeroWeight, EqualShifts, Ruler}
-use Rattle.code.specs.Theorems.{distance_equal, distance_ruler, distance_other, distance_pair}
+use Rattle.code.proofs.Theorems.{distance_equal, distance_ruler, distance_other, distance_pair}
 
 -- a pair's number: the same in both orders, at least 2, and 2 exactly where the shifts are equal
 pair_number_comm : (L : Layout) (i j : ℕ) → pair_number L i j ≡ pair_number L j i

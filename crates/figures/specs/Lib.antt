@@ -1,5 +1,3 @@
 -- What `figures` answers (Answers), and the laws of it and of the distance.
 pub mod Answers
 pub mod DistanceLaws
-pub mod AnswersLaws
-pub mod Once

@@ -1,3 +1,2 @@
 -- The lines of the sheet, their laws, and how long they are.
 pub mod Lines
-pub mod LinesLaws

@@ -8,5 +8,3 @@ pub mod Xor
 pub mod Sums
 pub mod SumsLaws
 pub mod Gcd
-pub mod GcdLaws
-pub mod Residues

@@ -3,7 +3,7 @@
 use Rattle.std.specs.Prelude.{refl}
 use Rattle.std.proofs.Common.{sym, ◌∙◌}
 use Rattle.refusals.specs.Refusals.{number_of}
-use Rattle.refusals.specs.RefusalLaws.{check_number_zero}
+use Rattle.refusals.proofs.RefusalLaws.{check_number_zero}
 use Rattle.refusals.specs.declared.Refusal.{Refusal}
 use Rattle.plan.specs.Plans.{plan_check}
 use Rattle.plan.specs.declared.Plan.{Plan}

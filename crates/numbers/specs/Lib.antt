@@ -2,4 +2,3 @@
 pub mod Entries
 pub mod EntryLaws
 pub mod Meanings
-pub mod Theorems

@@ -17,7 +17,7 @@ use Rattle.state.specs.State.{State}
 use Rattle.state.specs.Refusing.{refusal_of}
 use Rattle.act.specs.Meaning.{Means}
 use Rattle.act.specs.Acts.{state_of}
-use Rattle.act.specs.MeaningOnce.{Standing, means_stands, means_once}
+use Rattle.act.proofs.MeaningOnce.{Standing, means_stands, means_once}
 use Rattle.turns.specs.Sheets as sheets
 use Rattle.turns.specs.Sheets.{Sheet, start}
 use Rattle.turns.specs.Turns.{unplanned}

@@ -8,5 +8,3 @@ pub mod SomeFigures
 pub mod SomeRecovery
 pub mod Begins
 pub mod Performed
-pub mod PerformedLaws
-pub mod Struck

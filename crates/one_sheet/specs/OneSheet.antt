@@ -11,7 +11,7 @@ use Rattle.lines.specs.Lines.{line, end_word}
 use Rattle.state.specs.State.{State}
 use Rattle.state.specs.Refusing.{refusal_of}
 use Rattle.act.specs.Meaning.{Means}
-use Rattle.act.specs.MeaningOnce.{Standing, means_stands, means_once}
+use Rattle.act.proofs.MeaningOnce.{Standing, means_stands, means_once}
 use Rattle.turns.specs.Sheets.{Sheet, start, refused_line, ends, unknown, short, refused, goes_on}
 use Rattle.one_sheet.specs.ParsedLaws.{none}
 

@@ -3,7 +3,7 @@
 use Rattle.std.specs.Prelude.{◌≡◌, refl, ◌≢◌, true, List, [], ℕ, ◌≤◌, ◌<◌, length, get_or, take}
 use Rattle.std.proofs.Common.{sym, ◌∙◌, subst, arith}
 use Rattle.std.proofs.Math.Logic.{by_cases}
-use Rattle.refusals.specs.RefusalLaws.{dec_pass}
+use Rattle.refusals.proofs.RefusalLaws.{dec_pass}
 use Rattle.refusals.specs.declared.Check.TheVariants.{Pass}
 use Rattle.refusals.specs.declared.Refusal.{Refusal}
 use Rattle.commands.specs.Commands.{size_of, parsed}

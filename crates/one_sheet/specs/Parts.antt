@@ -5,7 +5,7 @@ use Rattle.std.proofs.Common.{sym, ◌∙◌, ap, subst, inl, inr, ⊎_elim, app
 use Rattle.std.proofs.Math.Logic.{by_cases}
 use Rattle.std.proofs.lemmas.List.{length-replicate, drop-append-le}
 use Rattle.std.proofs.Math.ListN.{get_or-append}
-use Rattle.refusals.specs.RefusalLaws.{dec_pass}
+use Rattle.refusals.proofs.RefusalLaws.{dec_pass}
 use Rattle.refusals.specs.declared.Check.TheVariants.{Pass}
 use Rattle.commands.specs.Commands.{size_of, parsed, parsed_check}
 use Rattle.commands.specs.CommandLaws as commands
@@ -22,7 +22,7 @@ use Rattle.turns.specs.Sheets as sheets
 use Rattle.turns.specs.Sheets.{Sheet, refused_line}
 use Rattle.one_sheet.specs.OneSheet.{Goes, sheet_ends, sheet_unknown, sheet_short, sheet_refused, sheet_goes}
 use Rattle.turns.specs.Turns.{Same, Turns}
-use Rattle.turns.specs.TurnLaws.{on_unknown, on_refused, on_acts}
+use Rattle.turns.proofs.TurnLaws.{on_unknown, on_refused, on_acts}
 use Rattle.turns.specs.declared.Turn.{Turn}
 use Rattle.turns.specs.declared.Turn.TheVariants.{Wait}
 use Rattle.one_sheet.specs.ParsedLaws.{zero_one, nothing_empty, whole_size, short_long, parsed_prefix}

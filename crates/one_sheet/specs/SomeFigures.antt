@@ -9,10 +9,10 @@ use Rattle.math.specs.Members.{up_to, from}
 use Rattle.math.specs.MembersLaws.{∈_up_to, length_up_to, dec_in}
 use Rattle.plan.specs.Layout.{Layout, Valid, layout}
 use Rattle.plan.specs.Plans.{layout_of, plan_check}
-use Rattle.plan.specs.PlanLaws.{good_bounds, good_valid}
+use Rattle.plan.proofs.PlanLaws.{good_bounds, good_valid}
 use Rattle.plan.specs.declared.Plan.{Plan}
 use Rattle.code.specs.Figures.{Least, Pair, Neighbours, Capability, pair_number, NonzeroWeight, EqualShifts, Ruler, Figures}
-use Rattle.code.specs.Theorems.{parity_count, distance_equal, distance_ruler, distance_other, distance_pair}
+use Rattle.code.proofs.Theorems.{parity_count, distance_equal, distance_ruler, distance_other, distance_pair}
 
 -- a number below n with the property, or none
 find : (P : ℕ → Type 0) → ((i : ℕ) → Dec (P i)) → (n : ℕ) → Dec ((i : ℕ) × (i < n) × P i)

@@ -8,13 +8,13 @@ use Rattle.math.specs.Padded.{padded}
 use Rattle.plan.specs.Layout.{Layout, Valid}
 use Rattle.code.specs.Codewords.{at}
 use Rattle.code.specs.Cycles.{Cycle}
-use Rattle.code.specs.Theorems.{forest_or_cycle, forest_no_cycle, decide}
+use Rattle.code.proofs.Theorems.{forest_or_cycle, forest_no_cycle, decide}
 use Rattle.code.specs.Laws.Forest.{Erased, above}
-use Rattle.code.specs.Laws.Basics.{places_∈}
-use Rattle.code.specs.Laws.CycleLaws.{cycle_mono}
-use Rattle.code.specs.Laws.Paths.{∈_above, above_∈, erased_above}
+use Rattle.code.proofs.Laws.Basics.{places_∈}
+use Rattle.code.proofs.Laws.CycleLaws.{cycle_mono}
+use Rattle.code.proofs.Laws.Paths.{∈_above, above_∈, erased_above}
 use Rattle.promises.specs.Promises.{Decides}
-use Rattle.promises.specs.Building.{decides_recovered, decides_loose, decides_crossed}
+use Rattle.promises.proofs.Building.{decides_recovered, decides_loose, decides_crossed}
 use Rattle.answers.specs.declared.Recovery.{Recovery}
 use Rattle.answers.specs.declared.Recovery.TheVariants.{Recovered, Crossed, Loose}
 use Rattle.bits.specs.Bits.{Marked}

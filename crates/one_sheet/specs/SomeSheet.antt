@@ -5,22 +5,23 @@ use Rattle.std.proofs.Math.Path.{refl}
 use Rattle.std.proofs.Common.{sym, ◌∙◌, subst, arith, length-set, length-drop, get_or-drop}
 use Rattle.std.proofs.Math.Logic.{by_cases}
 use Rattle.std.proofs.lemmas.List.{length-map, length-replicate}
-use Rattle.refusals.specs.RefusalLaws.{dec_pass}
+use Rattle.refusals.proofs.RefusalLaws.{dec_pass}
 use Rattle.refusals.specs.declared.Check.TheVariants.{Pass}
 use Rattle.plan.specs.Layout.{layout}
 use Rattle.plan.specs.Plans.{with_shift, layout_of, plan_check}
-use Rattle.plan.specs.PlanLaws.{good_valid}
+use Rattle.plan.proofs.PlanLaws.{good_valid}
 use Rattle.plan.specs.declared.Plan.{Plan}
 use Rattle.plan.specs.declared.Made.{Made}
 use Rattle.code.specs.Codewords.{at, Single}
 use Rattle.code.specs.Marks.{mark_bytes, erasures}
-use Rattle.code.specs.Laws.Carrying.{carried_some}
-use Rattle.code.specs.Laws.MarksLaws.{erasures_erased}
-use Rattle.code.specs.Laws.ParityCount.{messages, message_lists}
-use Rattle.code.specs.Theorems.{fetch_list_some, rounds_some}
-use Rattle.promises.specs.Building.{map_bytes}
+use Rattle.code.proofs.Laws.Carrying.{carried_some}
+use Rattle.code.proofs.Laws.MarksLaws.{erasures_erased}
+use Rattle.code.specs.Laws.ParityCount.{messages}
+use Rattle.code.proofs.Laws.ParityCount.{message_lists}
+use Rattle.code.proofs.Theorems.{fetch_list_some, rounds_some}
+use Rattle.promises.proofs.Building.{map_bytes}
 use Rattle.promises.specs.Promises.{Decides}
-use Rattle.promises.specs.Building.{decided_forest}
+use Rattle.promises.proofs.Building.{decided_forest}
 use Rattle.answers.specs.declared.Recovery.{Recovery}
 use Rattle.answers.specs.declared.Recovery.TheVariants as recovery
 use Rattle.commands.specs.Commands.{size_of, one, command_of, parsed}
@@ -35,10 +36,10 @@ use Rattle.state.specs.Refusing.{refusal_of}
 use Rattle.bits.specs.MarkedLaws.{Bytes, bytes_set}
 use Rattle.act.specs.Meaning.{Means}
 use Rattle.act.specs.Acts.{Makes}
-use Rattle.act.specs.ActLaws.{blank_makes, straight_makes, powers_makes, ruler_makes}
-use Rattle.act.specs.MeaningOnce.{Standing, means_stands}
-use Rattle.act.specs.RecoveringLaws.{Took, recovery_text, recovery_state, recovering_by, loose_took, crossed_took}
-use Rattle.act.specs.StateLaws.{place_inside, mark_inside, run_inside, shift_inside, recover_planned, seal_planned, figures_planned, fetch_planned}
+use Rattle.act.proofs.ActLaws.{blank_makes, straight_makes, powers_makes, ruler_makes}
+use Rattle.act.proofs.MeaningOnce.{Standing, means_stands}
+use Rattle.act.proofs.RecoveringLaws.{Took, recovery_text, recovery_state, recovering_by, loose_took, crossed_took}
+use Rattle.act.proofs.StateLaws.{place_inside, mark_inside, run_inside, shift_inside, recover_planned, seal_planned, figures_planned, fetch_planned}
 use Rattle.turns.specs.Sheets as sheets
 use Rattle.turns.specs.Sheets.{Sheet, start}
 use Rattle.one_sheet.specs.OneSheet.{one_sheet}

@@ -17,14 +17,17 @@ use Rattle.plan.specs.GoodPlan.{GoodPlan, plan_valid}
 use Rattle.code.specs.Places.{places}
 use Rattle.code.specs.Codewords.{at, Agrees}
 use Rattle.code.specs.Messages.{Carries}
-use Rattle.code.specs.Laws.Basics.{places_∈}
-use Rattle.code.specs.Laws.Carrying.{lists_unique, carried_some}
-use Rattle.code.specs.Laws.ParityCount.{parities, messages, erased_parities, forest_parities, parity_lists, parity_or_message, message_lists}
+use Rattle.code.proofs.Laws.Basics.{places_∈}
+use Rattle.code.proofs.Laws.Carrying.{lists_unique, carried_some}
+use Rattle.code.specs.Laws.ParityCount.{parities, messages}
+use Rattle.code.proofs.Laws.ParityCount.{erased_parities, forest_parities, parity_lists, parity_or_message, message_lists}
 use Rattle.tables.specs.Picture.{Counted, Picture}
 use Rattle.tables.specs.Sizes.{∈_good}
-use Rattle.tables.specs.Spots.{Stands, stands_section, stands_offset}
+use Rattle.tables.specs.Spots.{Stands}
+use Rattle.tables.proofs.Spots.{stands_section, stands_offset}
 use Rattle.sums.specs.SumLaws.{Syndromes}
-use Rattle.tables.specs.Counting.{Seen, All, Due, Notes, seen_skip, seen_all}
+use Rattle.tables.specs.Counting.{Seen, All, Due, Notes}
+use Rattle.tables.proofs.Counting.{seen_skip, seen_all}
 use Rattle.tables.specs.Zeros.{Zeros, zeros_of, zeros_room, zeros_part}
 use Rattle.tables.specs.StuckLaws.{stuck_none}
 use Rattle.settling.specs.Fill.{filled, Fillable, filled_at, filled_out, filled_long}

@@ -11,7 +11,7 @@ use Rattle.plan.specs.Layout.{Layout, layout}
 use Rattle.plan.specs.GoodPlan.{GoodPlan}
 use Rattle.code.specs.Checks.{update}
 use Rattle.tables.specs.Picture.{counts, Picture, Pictured, Settles, Stuck}
-use Rattle.tables.specs.Bounds.{tally_counts}
+use Rattle.tables.proofs.Bounds.{tally_counts}
 use Rattle.queue.specs.Queue.{Below, Queued, Enters, emptied}
 use Rattle.queue.specs.RowQueue.{RowQueue, rows_full, head_row, row_passed, row_room, row_taken}
 use Rattle.settling.specs.Settling.{settles_none, settles_more}

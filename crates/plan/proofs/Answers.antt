@@ -10,7 +10,7 @@ use borrow.Author.Tests.{le-leb, lt-leb, eq-eqb, eqb-true, ne_eqb, not-true, not
 use Rattle.math.specs.Tests.{no_right}
 use Rattle.math.specs.Members.{up_to}
 use Rattle.refusals.specs.Refusals.{unless}
-use Rattle.refusals.specs.RefusalLaws.{unless_pass, then_pass}
+use Rattle.refusals.proofs.RefusalLaws.{unless_pass, then_pass}
 use Rattle.refusals.specs.declared.Refusal.{Refusal}
 use Rattle.refusals.specs.declared.Refusal.TheVariants.{Size, Shift, Family}
 use Rattle.refusals.specs.declared.Check.{Check}

@@ -1,2 +1,3 @@
 -- What several functions' proofs share.
 pub mod Answers
+pub mod PlanLaws

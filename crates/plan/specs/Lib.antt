@@ -2,4 +2,3 @@
 pub mod Layout
 pub mod GoodPlan
 pub mod Plans
-pub mod PlanLaws

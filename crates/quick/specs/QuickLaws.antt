@@ -20,10 +20,10 @@ use Rattle.bits.specs.Bits.{Marked}
 use Rattle.bits.specs.MarkedLaws.{Bytes}
 use Rattle.state.specs.Refusing.{early, refusal_of}
 use Rattle.act.specs.Acts.{state_of, Acts}
-use Rattle.act.specs.ActLaws.{symbol_set, one_marked, run_marked, shown}
+use Rattle.act.proofs.ActLaws.{symbol_set, one_marked, run_marked, shown}
 use Rattle.act.specs.declared.Held.{Held}
 use Rattle.one_sheet.specs.Performed.{none}
-use Rattle.one_sheet.specs.PerformedLaws.{performed_one, performed_both}
+use Rattle.one_sheet.proofs.PerformedLaws.{performed_one, performed_both}
 use Rattle.quick.specs.Quick.{Places, Quiet, Shows, Quick}
 
 -- ---- what stands at an index

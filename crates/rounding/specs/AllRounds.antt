@@ -11,17 +11,18 @@ use Rattle.math.specs.Members.{Rising}
 use Rattle.bounds.specs.Bounds.{max_t}
 use Rattle.plan.specs.Layout.{layout}
 use Rattle.plan.specs.Plans.{layout_of, plan_check}
-use Rattle.plan.specs.PlanLaws.{good_bounds}
+use Rattle.plan.proofs.PlanLaws.{good_bounds}
 use Rattle.plan.specs.declared.Plan.{Plan}
 use Rattle.plan.specs.GoodPlan.{GoodPlan, plan_valid}
 use Rattle.refusals.specs.declared.Check.TheVariants.{Pass}
 use Rattle.code.specs.Marks.{mark_bytes, NoSpare, erasures}
 use Rattle.code.specs.Rounds.{after, Rounds}
 use Rattle.code.specs.Laws.Forest.{Forest}
-use Rattle.code.specs.Laws.Basics.{syndrome_zero}
-use Rattle.code.specs.Laws.RoundsLaws.{round_fewer, no_places, forest_after, after_costs}
+use Rattle.code.proofs.Laws.Basics.{syndrome_zero}
+use Rattle.code.proofs.Laws.RoundsLaws.{round_fewer, no_places, forest_after, after_costs}
 use Rattle.tables.specs.Picture.{Counted}
-use Rattle.tables.specs.Counting.{from_place, from_zero}
+use Rattle.tables.specs.Counting.{from_place}
+use Rattle.tables.proofs.Counting.{from_zero}
 use Rattle.tables.specs.Scan.{Lent}
 use Rattle.tables.specs.Zeros.{Zeros, zeros, zeros_long, zeros_room, zeros_part, front_long}
 use Rattle.queue.specs.Queue.{Below, Queued}

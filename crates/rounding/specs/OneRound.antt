@@ -10,11 +10,11 @@ use Rattle.plan.specs.Layout.{Layout, Valid, layout}
 use Rattle.plan.specs.GoodPlan.{plan_valid}
 use Rattle.code.specs.Rounds.{on_row, alone, round}
 use Rattle.code.specs.Laws.Forest.{Erased}
-use Rattle.code.specs.Laws.Basics.{meets_row}
-use Rattle.code.specs.Laws.Leaves.{on_row_some}
-use Rattle.code.specs.Laws.RoundsLaws.{alone_row, ∈_round, round_∈, rising_round}
+use Rattle.code.proofs.Laws.Basics.{meets_row}
+use Rattle.code.proofs.Laws.Leaves.{on_row_some}
+use Rattle.code.proofs.Laws.RoundsLaws.{alone_row, ∈_round, round_∈, rising_round}
 use Rattle.tables.specs.Picture.{counts}
-use Rattle.tables.specs.Bounds.{tally_counts}
+use Rattle.tables.proofs.Bounds.{tally_counts}
 use Rattle.queue.specs.RowQueue.{rows_full}
 use Rattle.rounding.specs.OneRow.{Left, Ready, Within, Turned}
 

@@ -13,12 +13,12 @@ use Rattle.plan.specs.Layout.{Layout, layout}
 use Rattle.plan.specs.GoodPlan.{GoodPlan}
 use Rattle.code.specs.Places.{Meets, meets}
 use Rattle.code.specs.Rounds.{on_row, alone}
-use Rattle.code.specs.Laws.Basics.{true_meets}
-use Rattle.code.specs.Laws.Leaves.{∈_length, on_row_some}
-use Rattle.code.specs.Laws.RoundsLaws.{alone_on}
+use Rattle.code.proofs.Laws.Basics.{true_meets}
+use Rattle.code.proofs.Laws.Leaves.{∈_length, on_row_some}
+use Rattle.code.proofs.Laws.RoundsLaws.{alone_on}
 use Rattle.tables.specs.Picture.{counts, Picture}
 use Rattle.tables.specs.PictureLaws.{length_on_row_without}
-use Rattle.tables.specs.Bounds.{tally_counts}
+use Rattle.tables.proofs.Bounds.{tally_counts}
 use Rattle.queue.specs.Queue.{Standing, Enters, enters_same, enters_longer}
 use Rattle.queue.specs.RowQueue.{RowQueue, head_row, row_passed, row_room, row_taken}
 use Rattle.settling.specs.Takes.{One, Takes}

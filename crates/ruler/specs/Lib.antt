@@ -1,3 +1,2 @@
 -- The rulers, and their laws.
 pub mod Ruler
-pub mod RulerLaws

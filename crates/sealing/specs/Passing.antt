@@ -5,7 +5,7 @@ use Rattle.std.proofs.Common.{sym, ◌∙◌}
 use mathlib.Core.List.{List, [], map}
 use Rattle.plan.specs.Layout.{layout, message_count}
 use Rattle.plan.specs.Plans.{layout_of, plan_check}
-use Rattle.plan.specs.PlanLaws.{good_bounds}
+use Rattle.plan.proofs.PlanLaws.{good_bounds}
 use Rattle.plan.specs.declared.Plan.{Plan}
 use Rattle.plan.specs.GoodPlan.{GoodPlan}
 use Rattle.code.specs.Codewords.{Codeword}
@@ -14,13 +14,13 @@ use Rattle.code.specs.Laws.ParityCount.{messages}
 use Rattle.runs.specs.Runs.{RunsOf}
 use Rattle.runs.specs.Laws.Fronts.{total, total_count}
 use Rattle.calls.specs.Calls.{lengths_fit, lent_check, check_of}
-use Rattle.calls.specs.CallsLaws.{part_same, call_stop, call_lent, pass_good}
-use Rattle.refusals.specs.RefusalLaws.{pass_not_stop}
+use Rattle.calls.proofs.CallsLaws.{part_same, call_stop, call_lent, pass_good}
+use Rattle.refusals.proofs.RefusalLaws.{pass_not_stop}
 use Rattle.refusals.specs.declared.Refusal.{Refusal}
 use Rattle.refusals.specs.declared.Check.{Check}
 use Rattle.refusals.specs.declared.Check.TheVariants.{Pass, Stop}
 use Rattle.promises.specs.Promises.{message_lent, Encodes, Reads}
-use Rattle.promises.specs.Building.{message_lengths, encodes_done, reads_read, reads_crossed}
+use Rattle.promises.proofs.Building.{message_lengths, encodes_done, reads_read, reads_crossed}
 use Rattle.answers.specs.declared.Encoding.TheVariants as encoding
 use Rattle.answers.specs.declared.Reading.TheVariants as reading
 

@@ -15,7 +15,7 @@ use Rattle.plan.specs.Layout.{Layout}
 use Rattle.code.specs.Places.{places, Meets, meets}
 use Rattle.code.specs.Codewords.{syndrome}
 use Rattle.code.specs.Checks.{update, row_places}
-use Rattle.code.specs.Laws.Settle.{update_same, update_other, ∈_row_places, row_sum, distinct_row, other_places, row_forced}
+use Rattle.code.proofs.Laws.Settle.{update_same, update_other, ∈_row_places, row_sum, distinct_row, other_places, row_forced}
 use Rattle.tables.specs.Picture.{Settles}
 use Rattle.tables.specs.PictureLaws.{Touched}
 use Rattle.tables.specs.Singles.{Single}

@@ -14,13 +14,14 @@ use Rattle.plan.specs.GoodPlan.{GoodPlan, plan_valid}
 use Rattle.code.specs.Places.{places, Meets}
 use Rattle.code.specs.Codewords.{syndrome}
 use Rattle.code.specs.Checks.{update}
-use Rattle.code.specs.Laws.Basics.{places_∈, meets_true, top≢bottom, meets_row}
-use Rattle.code.specs.Laws.Leaves.{on_row_some}
+use Rattle.code.proofs.Laws.Basics.{places_∈, meets_true, top≢bottom, meets_row}
+use Rattle.code.proofs.Laws.Leaves.{on_row_some}
 use Rattle.tables.specs.Picture.{tally_unit, weight, counts, Picture, Pictured}
 use Rattle.tables.specs.PictureLaws.{Touched, length_on_row_without, picture_less}
 use Rattle.tables.specs.Sizes.{good_∈}
-use Rattle.tables.specs.Bounds.{tally_counts, tally_some}
-use Rattle.tables.specs.Beside.{Beside, beside_place, beside_sides}
+use Rattle.tables.proofs.Bounds.{tally_counts, tally_some}
+use Rattle.tables.specs.Beside.{Beside}
+use Rattle.tables.proofs.Beside.{beside_place, beside_sides}
 use Rattle.tables.specs.Singles.{Single, Lowers, single}
 use Rattle.settling.specs.Settling.{row_forces, syndrome_byte, touched_two}
 

@@ -4,7 +4,7 @@ use Rattle.std.specs.Prelude.{◌≡◌, List, [], ◌++◌, ℕ, ◌+◌, ◌<�
 use Rattle.std.proofs.Common.{sym, ◌∙◌, ap, append-nil, arith, length-append}
 use Rattle.std.proofs.Math.Seq.{take-append_seam}
 use Rattle.state.specs.State.{State}
-use Rattle.act.specs.MeaningOnce.{Standing, means_once}
+use Rattle.act.proofs.MeaningOnce.{Standing, means_once}
 use Rattle.turns.specs.Sheets.{Sheet, start}
 use Rattle.one_sheet.specs.OneSheet.{sheet_goes, sheet_once}
 use Rattle.one_sheet.specs.Begins.{begins_stands, begins_sheet}

@@ -2,7 +2,7 @@
 -- Main results: job_sheet; run_writes, run_short, run_exactly; parts_sheet, sheet_parts, parts_same; prefix_performs.
 use Rattle.std.specs.Prelude.{◌≡◌, refl, ◌↔◌, ◌⊎◌, Bool, false, List, [], ◌++◌, ℕ, ◌≤◌, ◌<◌, length, get_or, take, drop}
 use Rattle.std.proofs.Common.{sym, ◌∙◌, ap, subst, inl, inr, ⊎_elim, arith, take-append-drop, length-take-le}
-use Rattle.refusals.specs.RefusalLaws.{stop_or_pass}
+use Rattle.refusals.proofs.RefusalLaws.{stop_or_pass}
 use Rattle.code.specs.Codewords.{Single}
 use Rattle.act.specs.declared.Held.{Held}
 use Rattle.standing.specs.Standing.{held_check}

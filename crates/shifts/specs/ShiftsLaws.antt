@@ -10,7 +10,7 @@ use Rattle.std.proofs.Math.ListN.{length, get_or}
 use Rattle.std.proofs.lemmas.List.{length-replicate, length-map, set_at}
 use Rattle.std.proofs.Math.Seq.{append_snoc}
 use Rattle.math.specs.Gcd.{gcd, gcd_all, gap}
-use Rattle.math.specs.Residues.{mod_mul_congr}
+use Rattle.math.proofs.Residues.{mod_mul_congr}
 use Rattle.math.specs.Members.{up_to}
 use Rattle.math.specs.MembersLaws.{up_to_suc, length_up_to}
 use Rattle.bounds.specs.Bounds.{all_below}

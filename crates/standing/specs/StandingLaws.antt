@@ -7,7 +7,7 @@ use borrow.Author.Tests.{eq-eqb, ne_eqb, eqb-true, not-true, not-false}
 use Rattle.math.specs.Tests.{and_left, and_right}
 use Rattle.math.specs.MembersLaws.{by_test}
 use Rattle.refusals.specs.Refusals.{unless}
-use Rattle.refusals.specs.RefusalLaws.{unless_pass, then_pass}
+use Rattle.refusals.proofs.RefusalLaws.{unless_pass, then_pass}
 use Rattle.refusals.specs.declared.Refusal.{Refusal}
 use Rattle.refusals.specs.declared.Refusal.TheVariants.{Length, Spare}
 use Rattle.refusals.specs.declared.Check.{Check}
@@ -15,9 +15,9 @@ use Rattle.refusals.specs.declared.Check.TheVariants.{Pass, Stop}
 use Rattle.plan.specs.Layout.{layout}
 use Rattle.plan.specs.Plans.{layout_of, plan_check}
 use Rattle.code.specs.Marks.{mark_bytes, NoSpare}
-use Rattle.code.specs.Laws.MarksLaws.{mark_count_zero}
+use Rattle.code.proofs.Laws.MarksLaws.{mark_count_zero}
 use Rattle.calls.specs.Calls.{none_from, spare_clear, lent_check, call_check}
-use Rattle.calls.specs.CallsLaws.{spare_none, lent_pass, call_stop, call_next, call_passes, call_passed}
+use Rattle.calls.proofs.CallsLaws.{spare_none, lent_pass, call_stop, call_next, call_passes, call_passed}
 use Rattle.stretches.specs.ByteLaws.{none_marked}
 use Rattle.lines.specs.Lines.{line_length}
 use Rattle.act.specs.Acts.{block_length, marks_length, Kept}

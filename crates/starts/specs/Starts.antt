@@ -12,13 +12,15 @@ use Rattle.plan.specs.Layout.{Layout, layout, top, bottom, bottom_row}
 use Rattle.plan.specs.GoodPlan.{GoodPlan, plan_valid}
 use Rattle.code.specs.Places.{Meets}
 use Rattle.code.specs.Marks.{mark, erasures}
-use Rattle.code.specs.Laws.Basics.{top≢bottom, meets_row}
-use Rattle.code.specs.Laws.MarksLaws.{in_erasures}
+use Rattle.code.proofs.Laws.Basics.{top≢bottom, meets_row}
+use Rattle.code.proofs.Laws.MarksLaws.{in_erasures}
 use Rattle.tables.specs.Picture.{counts, Counted}
-use Rattle.tables.specs.Spots.{Reached, reached_stands, stands_top, stands_bottom}
+use Rattle.tables.specs.Spots.{Reached}
+use Rattle.tables.proofs.Spots.{reached_stands, stands_top, stands_bottom}
 use Rattle.tables.specs.Sizes.{∈_good, good_∈}
-use Rattle.tables.specs.Bounds.{tally_counts}
-use Rattle.tables.specs.Scan.{Lent, marked_inside}
+use Rattle.tables.proofs.Bounds.{tally_counts}
+use Rattle.tables.specs.Scan.{Lent}
+use Rattle.tables.proofs.Scan.{marked_inside}
 use Rattle.tables.specs.WordWalk.{Skips}
 use Rattle.bits.specs.Words.{Clear}
 use Rattle.queue.specs.Queue.{Below, Queued, Waits, Enters, queued_none, full, room, looks, widened, entered}

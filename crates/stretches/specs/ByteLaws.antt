@@ -12,7 +12,7 @@ use Rattle.std.proofs.Math.ListN.{get_or}
 use Rattle.std.proofs.Math.Pow.{field, mod-mod-pow, shr_mod}
 use Rattle.code.specs.Codewords.{bit_of}
 use Rattle.code.specs.Marks.{mark, mark_count}
-use Rattle.code.specs.Laws.MarksLaws.{mark_at, mark_count_none, mark_count_one, mark_count_split, mark_count_suc}
+use Rattle.code.proofs.Laws.MarksLaws.{mark_at, mark_count_none, mark_count_one, mark_count_split, mark_count_suc}
 use Rattle.stretches.specs.Stretches.{none_from}
 
 pub ones_zero : ones 0 ≡ 0

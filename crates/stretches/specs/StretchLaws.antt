@@ -15,7 +15,7 @@ use Rattle.math.specs.SumsLaws.{only_true, only_false, sum_over_ext, length_keep
 use Rattle.slices.specs.Zeros.{all_zero, all_zero_at, at_all_zero}
 use Rattle.code.specs.Codewords.{bit_of}
 use Rattle.code.specs.Marks.{mark, mark_count}
-use Rattle.code.specs.Laws.MarksLaws.{mark_bit, mark_count_none, mark_count_split, mark_count_zero, mark_count_byte, mark_count_bytes}
+use Rattle.code.proofs.Laws.MarksLaws.{mark_bit, mark_count_none, mark_count_split, mark_count_zero, mark_count_byte, mark_count_bytes}
 use Rattle.stretches.specs.Stretches.{none_from, none_in, ones_of}
 use Rattle.stretches.specs.ByteLaws.{ones_zero, ones_none, part_count, count_none}
 

@@ -16,13 +16,14 @@ use Rattle.math.specs.MembersLaws.{by_test, ∈_from, from_∈, rising_from, ris
 use Rattle.math.specs.Xor.{◌⊕◌, xor, ⊕_zero, ⊕_assoc, zero_⊕}
 use Rattle.math.specs.Sums.{xor_over, only}
 use Rattle.math.specs.SumsLaws.{only_true, only_false, xor_over_ext, xor_over_append, xor_over_one}
-use Rattle.math.specs.Residues.{back_forth, forth_back}
+use Rattle.math.proofs.Residues.{back_forth, forth_back}
 use Rattle.plan.specs.Layout.{layout, bottom_row}
 use Rattle.plan.specs.GoodPlan.{GoodPlan}
 use Rattle.code.specs.Places.{Meets, meets}
 use Rattle.code.specs.Codewords.{syndrome}
-use Rattle.code.specs.Laws.Basics.{meets_true, true_meets}
-use Rattle.tables.specs.Spots.{Stands, stands_top, stands_bottom}
+use Rattle.code.proofs.Laws.Basics.{meets_true, true_meets}
+use Rattle.tables.specs.Spots.{Stands}
+use Rattle.tables.proofs.Spots.{stands_top, stands_bottom}
 use Rattle.tables.specs.Sizes.{good_places}
 use Rattle.tables.specs.Zeros.{zeros_long}
 use Rattle.tables.specs.Sweeps.{Mapped, PartMapped, with_symbol, part_mapped}

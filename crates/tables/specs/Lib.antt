@@ -8,7 +8,6 @@ pub mod Sweeps
 pub mod Zeros
 pub mod StuckLaws
 pub mod Singles
-pub mod Bounds
 pub mod Counting
 pub mod WordWalk
 pub mod Scan

@@ -18,8 +18,8 @@ use Rattle.code.specs.Places.{places, Meets, meets}
 use Rattle.code.specs.Codewords.{syndrome}
 use Rattle.code.specs.Checks.{update}
 use Rattle.code.specs.Rounds.{on_row}
-use Rattle.code.specs.Laws.Basics.{distinct_places, top≢bottom, meets_row, meets_true, true_meets, syndrome_ext, syndrome_add}
-use Rattle.code.specs.Laws.Settle.{update_same, update_other}
+use Rattle.code.proofs.Laws.Basics.{distinct_places, top≢bottom, meets_row, meets_true, true_meets, syndrome_ext, syndrome_add}
+use Rattle.code.proofs.Laws.Settle.{update_same, update_other}
 use Rattle.tables.specs.Picture.{weight, Counted, Picture}
 
 -- ---- a symbol changes

@@ -9,7 +9,7 @@ use Rattle.math.specs.Sums.{sum_over}
 use Rattle.plan.specs.Layout.{Layout}
 use Rattle.code.specs.Places.{places, Meets}
 use Rattle.code.specs.Rounds.{on_row}
-use Rattle.code.specs.Laws.Leaves.{∈_on_row, on_row_∈}
+use Rattle.code.proofs.Laws.Leaves.{∈_on_row, on_row_∈}
 use Rattle.tables.specs.Picture.{weight, counts, Counted}
 
 -- c is the only erasure on row r, and v is its weight

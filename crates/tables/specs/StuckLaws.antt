@@ -22,10 +22,10 @@ use Rattle.code.specs.Places.{places, rows, Meets}
 use Rattle.code.specs.Codewords.{at, syndrome}
 use Rattle.code.specs.Cycles.{Cycle}
 use Rattle.code.specs.Laws.Forest.{Erased, Forest}
-use Rattle.code.specs.Laws.Basics.{∈_rows, rows_∈, meets_row, syndrome_add, syndrome_zero}
+use Rattle.code.proofs.Laws.Basics.{∈_rows, rows_∈, meets_row, syndrome_add, syndrome_zero}
 use Rattle.code.specs.Rounds.{on_row}
-use Rattle.code.specs.Laws.Leaves.{∈_on_row, distinct_on_row, length_on_row_le, on_row_some, forest_sub, incidences, touched, touched_sub, doubles, forest_touched}
-use Rattle.code.specs.Laws.CycleLaws.{Mates, top_mates, bottom_mates, last_mates, indicator, indicator_in, indicator_out, cycle_indicator, cycle_inside}
+use Rattle.code.proofs.Laws.Leaves.{∈_on_row, distinct_on_row, length_on_row_le, on_row_some, forest_sub, incidences, touched, touched_sub, doubles, forest_touched}
+use Rattle.code.proofs.Laws.CycleLaws.{Mates, top_mates, bottom_mates, last_mates, indicator, indicator_in, indicator_out, cycle_indicator, cycle_inside}
 use Rattle.tables.specs.Picture.{Settles, Stuck}
 
 -- ---- sums

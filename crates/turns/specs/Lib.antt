@@ -1,5 +1,3 @@
 -- A job: its sheet, and what one turn does.
 pub mod Sheets
 pub mod Turns
-pub mod TurnLaws
-pub mod TurnsOnce

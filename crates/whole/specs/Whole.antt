@@ -10,12 +10,12 @@ use Rattle.math.specs.Members.{◌∈◌}
 use Rattle.plan.specs.Layout.{Layout, layout}
 use Rattle.code.specs.Codewords.{at, bit_of}
 use Rattle.code.specs.Marks.{mark, erasures}
-use Rattle.code.specs.Laws.MarksLaws.{in_erasures}
+use Rattle.code.proofs.Laws.MarksLaws.{in_erasures}
 use Rattle.tables.specs.Scan.{Lent}
 use Rattle.sums.specs.SumLaws.{Syndromes}
 use Rattle.slices.specs.Zeros.{all_zero, all_zero_at}
 use Rattle.promises.specs.Promises.{Decides}
-use Rattle.promises.specs.Building.{decides_recovered}
+use Rattle.promises.proofs.Building.{decides_recovered}
 use Rattle.answers.specs.declared.Recovery.{Recovery}
 use Rattle.answers.specs.declared.Recovery.TheVariants.{Recovered}
 

@@ -22,13 +22,14 @@ use Rattle.code.specs.Components.{Inconsistent}
 use Rattle.code.specs.Messages.{Message, Lists}
 use Rattle.code.specs.Figures.{Least, pair_number, Pair, Neighbours, Capability, EqualShifts, Ruler}
 use Rattle.code.specs.Laws.Forest.{Erased, Forest, above}
-use Rattle.code.specs.Laws.Basics.{∈_rows, places_∈, rising_places}
-use Rattle.code.specs.Laws.Labels.{label, label_connected, connected_label}
-use Rattle.code.specs.Laws.Balance.{crossed}
-use Rattle.code.specs.Laws.Unique.{forest_unique}
-use Rattle.code.specs.Laws.Paths.{path}
-use Rattle.code.specs.Laws.CycleLaws.{forest_by_place}
-use Rattle.code.specs.Laws.MarksLaws.{erasures_erased}
+use Rattle.code.proofs.Laws.Basics.{∈_rows, places_∈, rising_places}
+use Rattle.code.specs.Laws.Labels.{label}
+use Rattle.code.proofs.Laws.Labels.{label_connected, connected_label}
+use Rattle.code.proofs.Laws.Balance.{crossed}
+use Rattle.code.proofs.Laws.Unique.{forest_unique}
+use Rattle.code.proofs.Laws.Paths.{path}
+use Rattle.code.proofs.Laws.CycleLaws.{forest_by_place}
+use Rattle.code.proofs.Laws.MarksLaws.{erasures_erased}
 
 -- ---- one test over a list
 

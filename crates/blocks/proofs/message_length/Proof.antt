@@ -1,6 +1,6 @@
 -- `message_length` meets its contract. Assumes nothing.
 use Rattle.plan.specs.Plans.{layout_of}
-use Rattle.plan.specs.PlanLaws.{good_bounds}
+use Rattle.plan.proofs.PlanLaws.{good_bounds}
 use borrow.Author.Rules.{rules}
 use Rattle.blocks.proofs.message_length.Statement.{statement}
 use Rattle.blocks.proofs.message_length.Tie as tie

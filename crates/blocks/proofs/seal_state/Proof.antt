@@ -1,8 +1,8 @@
 -- The front parts of the buffers are sealed and cleared.
 use native.Mathlib.Omega.{arith}
-use Rattle.act.specs.StateLaws.{places_most, places_fit, bytes_fit, front_long}
+use Rattle.act.proofs.StateLaws.{places_most, places_fit, bytes_fit, front_long}
 use Rattle.blocks.specs.BlockLaws.{lent_whole, sealed_acts}
-use Rattle.lines.specs.LinesLaws.{wrote_at, wrote_front}
+use Rattle.lines.proofs.LinesLaws.{wrote_at, wrote_front}
 use borrow.Author.Rules.{rules}
 use Rattle.blocks.proofs.seal_state.Statement.{statement}
 use Rattle.blocks.proofs.seal_state.Tie as tie

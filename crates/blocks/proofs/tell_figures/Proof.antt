@@ -1,7 +1,7 @@
 -- `tell_figures` meets its contract. Assumes nothing.
 use Rattle.plan.specs.Plans.{layout_of}
-use Rattle.plan.specs.PlanLaws.{good_bounds}
-use Rattle.lines.specs.LinesLaws.{wrote_at, wrote_front}
+use Rattle.plan.proofs.PlanLaws.{good_bounds}
+use Rattle.lines.proofs.LinesLaws.{wrote_at, wrote_front}
 use Rattle.blocks.specs.BlockLaws.{figured}
 use borrow.Author.Rules.{rules}
 use Rattle.blocks.proofs.tell_figures.Statement.{statement}

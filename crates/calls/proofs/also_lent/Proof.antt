@@ -1,7 +1,7 @@
 -- `also_lent` meets its contract. Assumes nothing.
 use borrow.Author.Rules.{rules}
 use mathlib.Core.Path.{◌∙◌}
-use Rattle.calls.specs.CallsLaws.{also_fits, also_not}
+use Rattle.calls.proofs.CallsLaws.{also_fits, also_not}
 use Rattle.calls.proofs.also_lent.Statement.{statement}
 use Rattle.calls.proofs.also_lent.Tie as tie
 

@@ -1,8 +1,8 @@
 -- `check_call` meets its contract. Assumes nothing.
 use Rattle.calls.specs.Calls.{check_of}
-use Rattle.calls.specs.CallsLaws.{call_stop, call_lent}
+use Rattle.calls.proofs.CallsLaws.{call_stop, call_lent}
 use Rattle.plan.specs.Plans.{layout_of}
-use Rattle.plan.specs.PlanLaws.{good_bounds}
+use Rattle.plan.proofs.PlanLaws.{good_bounds}
 use mathlib.Core.Path.{sym, ◌∙◌}
 use native.Mathlib.Omega.{arith}
 use borrow.Author.Rules.{rules}

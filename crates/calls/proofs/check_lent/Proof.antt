@@ -1,6 +1,6 @@
 -- `check_lent` meets its contract. Assumes nothing.
 use Rattle.plan.proofs.Answers.{failed, passed}
-use Rattle.calls.specs.CallsLaws.{lent_length, lent_spare, lent_pass}
+use Rattle.calls.proofs.CallsLaws.{lent_length, lent_spare, lent_pass}
 use borrow.Author.Tests.{not-true, not-false}
 use borrow.Author.Rules.{rules}
 use Rattle.calls.proofs.check_lent.Statement.{statement}

@@ -1,5 +1,5 @@
 -- `erasure_count` meets its contract. Assumes nothing.
-use Rattle.calls.specs.CallsLaws.{count_most, counted_pass, counted_stop}
+use Rattle.calls.proofs.CallsLaws.{count_most, counted_pass, counted_stop}
 use Rattle.refusals.specs.Refusals.{check_number}
 use Rattle.plan.specs.declared.Count.TheVariants.{Is}
 use mathlib.Core.Path.{sym, ◌∙◌, ap}

@@ -1,6 +1,6 @@
 -- `lengths_fit` meets its contract. Assumes nothing.
 use Rattle.plan.proofs.Answers.{failed, passed}
-use Rattle.calls.specs.CallsLaws.{block_off, marks_off, witness_off, message_last}
+use Rattle.calls.proofs.CallsLaws.{block_off, marks_off, witness_off, message_last}
 use mathlib.Core.Path.{◌∙◌}
 use borrow.Author.Rules.{rules}
 use Rattle.calls.proofs.lengths_fit.Statement.{statement}

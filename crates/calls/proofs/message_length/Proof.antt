@@ -1,5 +1,5 @@
 -- `message_length` meets its contract. Assumes nothing.
-use Rattle.calls.specs.CallsLaws.{part_same}
+use Rattle.calls.proofs.CallsLaws.{part_same}
 use borrow.Author.Rules.{rules}
 use Rattle.calls.proofs.message_length.Statement.{statement}
 use Rattle.calls.proofs.message_length.Tie as tie

@@ -1,5 +1,5 @@
 -- `part_fits` meets its contract. Assumes nothing.
-use Rattle.calls.specs.CallsLaws.{part_of}
+use Rattle.calls.proofs.CallsLaws.{part_of}
 use borrow.Author.Rules.{rules}
 use Rattle.calls.proofs.part_fits.Statement.{statement}
 use Rattle.calls.proofs.part_fits.Tie as tie

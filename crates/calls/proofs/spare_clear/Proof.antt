@@ -1,6 +1,6 @@
 -- `spare_clear` meets its contract. Assumes nothing.
 use Rattle.calls.specs.Calls.{spare_clear}
-use Rattle.calls.specs.CallsLaws.{spare_past}
+use Rattle.calls.proofs.CallsLaws.{spare_past}
 use lib.Seq.{length-take-le}
 use mathlib.Core.Path.{sym}
 use native.Mathlib.Omega.{arith}

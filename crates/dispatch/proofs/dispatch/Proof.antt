@@ -3,7 +3,7 @@ use mathlib.Core.Path.{sym, ◌∙◌}
 use mathlib.Core.Bool.{true≢false}
 use Rattle.state.proofs.Tags.{tag_makes}
 use Rattle.act.specs.Acts.{state_of}
-use Rattle.act.specs.StateLaws.{recover_planned, seal_planned, figures_planned, fetch_planned}
+use Rattle.act.proofs.StateLaws.{recover_planned, seal_planned, figures_planned, fetch_planned}
 use Rattle.dispatch.specs.DispatchLaws.{refusal_is, shift_any, quiet_acts, told_acts}
 use borrow.Author.Rules.{rules}
 use Rattle.dispatch.proofs.dispatch.Statement.{statement}

@@ -4,9 +4,9 @@ use borrow.Author.Tests.{eqb-true}
 use Rattle.plan.specs.Layout.{layout}
 use Rattle.plan.specs.Plans.{layout_of}
 use Rattle.code.specs.Marks.{mark_bytes}
-use Rattle.calls.specs.CallsLaws.{pass_good, count_length, also_pass}
+use Rattle.calls.proofs.CallsLaws.{pass_good, count_length, also_pass}
 use Rattle.promises.specs.Promises.{fetch_check}
-use Rattle.promises.specs.Building.{fetches_refused, fetches_fetched}
+use Rattle.promises.proofs.Building.{fetches_refused, fetches_fetched}
 use borrow.Author.Rules.{rules}
 use Rattle.fetch.proofs.fetch.Statement.{statement}
 use Rattle.fetch.proofs.fetch.Tie as tie

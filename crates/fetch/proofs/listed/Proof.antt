@@ -4,7 +4,7 @@ use Prim.Native.Nat.{ℕ}
 use native.Mathlib.Omega.{arith}
 use lib.ListN.{replicate, length-replicate}
 use Rattle.plan.specs.Plans.{layout_of}
-use Rattle.plan.specs.PlanLaws.{good_bounds}
+use Rattle.plan.proofs.PlanLaws.{good_bounds}
 use Rattle.tables.specs.Zeros.{front_long}
 use borrow.Author.Rules.{rules}
 use Rattle.fetch.proofs.listed.Statement.{statement}

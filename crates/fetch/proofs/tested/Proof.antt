@@ -4,7 +4,7 @@ use lib.Dec.{eqb}
 use lib.ListN.{length}
 use Rattle.refusals.specs.declared.Check.{Check}
 use Rattle.calls.specs.Calls.{also_lent}
-use Rattle.calls.specs.CallsLaws.{as_marks}
+use Rattle.calls.proofs.CallsLaws.{as_marks}
 use borrow.Author.Rules.{rules}
 use Rattle.fetch.proofs.tested.Statement.{statement}
 use Rattle.fetch.proofs.tested.Tie as tie

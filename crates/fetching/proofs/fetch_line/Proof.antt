@@ -3,7 +3,7 @@ use Prim.Native.Nat.{◌<◌}
 use native.Mathlib.Omega.{arith}
 use Rattle.pieces.specs.DecimalLaws.{length_decimal_5}
 use Rattle.lines.specs.Lines.{fetch_word}
-use Rattle.lines.specs.LinesLaws.{begun, more, more_list, ended}
+use Rattle.lines.proofs.LinesLaws.{begun, more, more_list, ended}
 use borrow.Author.Rules.{rules}
 use Rattle.fetching.proofs.fetch_line.Statement.{statement}
 use Rattle.fetching.proofs.fetch_line.Tie as tie

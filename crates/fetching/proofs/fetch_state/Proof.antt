@@ -3,7 +3,7 @@ use mathlib.Core.Path.{sym, ◌∙◌}
 use Prim.Native.Nat.{ℕ}
 use native.Mathlib.Omega.{arith}
 use lib.ListN.{replicate, length-replicate}
-use Rattle.act.specs.StateLaws.{places_most, bytes_fit, bytes_most, front_long}
+use Rattle.act.proofs.StateLaws.{places_most, bytes_fit, bytes_most, front_long}
 use Rattle.fetching.specs.FetchingLaws.{lent_marks, listed_acts}
 use borrow.Author.Rules.{rules}
 use Rattle.fetching.proofs.fetch_state.Statement.{statement}

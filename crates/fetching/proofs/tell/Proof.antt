@@ -3,8 +3,8 @@ use native.Mathlib.Omega.{arith}
 use Rattle.plan.specs.Layout.{layout}
 use Rattle.plan.specs.Plans.{layout_of}
 use Rattle.code.specs.Marks.{mark_bytes}
-use Rattle.act.specs.StateLaws.{places_most}
-use Rattle.lines.specs.LinesLaws.{wrote_at, wrote_front}
+use Rattle.act.proofs.StateLaws.{places_most}
+use Rattle.lines.proofs.LinesLaws.{wrote_at, wrote_front}
 use Rattle.fetching.specs.FetchingLaws.{told_few, told_listed}
 use borrow.Author.Rules.{rules}
 use Rattle.fetching.proofs.tell.Statement.{statement}

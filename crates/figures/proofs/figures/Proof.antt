@@ -1,6 +1,6 @@
 -- `figures` meets its contract: the figures of a good plan, or its refusal handed on. Assumes nothing.
-use Rattle.figures.specs.AnswersLaws.{answered_good, answered_not}
-use Rattle.plan.specs.PlanLaws.{good_bounds}
+use Rattle.figures.proofs.AnswersLaws.{answered_good, answered_not}
+use Rattle.plan.proofs.PlanLaws.{good_bounds}
 use mathlib.Core.Path.{sym, ◌∙◌}
 use borrow.Author.Rules.{rules}
 use Rattle.figures.proofs.figures.Statement.{statement}

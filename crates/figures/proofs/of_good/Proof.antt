@@ -1,5 +1,5 @@
 -- `of_good` meets its contract. Assumes nothing.
-use Rattle.figures.specs.AnswersLaws.{pair_asks, near_asks, pair_least, near_least, figures_are}
+use Rattle.figures.proofs.AnswersLaws.{pair_asks, near_asks, pair_least, near_least, figures_are}
 use borrow.Author.Rules.{rules}
 use Rattle.figures.proofs.of_good.Statement.{statement}
 use Rattle.figures.proofs.of_good.Tie as tie

@@ -1,8 +1,8 @@
 -- A command that makes a plan, or one that is refused, or performed. Assumes nothing.
 use mathlib.Core.Path.{refl, sym, ◌∙◌}
-use Rattle.refusals.specs.RefusalLaws.{pass_not_stop}
+use Rattle.refusals.proofs.RefusalLaws.{pass_not_stop}
 use Rattle.act.specs.Acts.{state_of}
-use Rattle.turns.specs.TurnLaws.{on_refused, on_acts}
+use Rattle.turns.proofs.TurnLaws.{on_refused, on_acts}
 use borrow.Author.Rules.{rules}
 use Rattle.job.proofs.go.Statement.{statement}
 use Rattle.job.proofs.go.Tie as tie

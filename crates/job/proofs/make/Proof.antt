@@ -1,9 +1,9 @@
 -- The plan is refused, or begun. Assumes nothing.
 use mathlib.Core.Path.{refl, sym, ◌∙◌}
-use Rattle.refusals.specs.RefusalLaws.{pass_not_stop}
-use Rattle.lines.specs.LinesLaws.{wrote_none}
-use Rattle.act.specs.ActLaws.{made_acts}
-use Rattle.turns.specs.TurnLaws.{on_refused, on_acts}
+use Rattle.refusals.proofs.RefusalLaws.{pass_not_stop}
+use Rattle.lines.proofs.LinesLaws.{wrote_none}
+use Rattle.act.proofs.ActLaws.{made_acts}
+use Rattle.turns.proofs.TurnLaws.{on_refused, on_acts}
 use borrow.Author.Rules.{rules}
 use Rattle.job.proofs.make.Statement.{statement}
 use Rattle.job.proofs.make.Tie as tie

@@ -1,7 +1,7 @@
 -- What refuses the state, then the turn.
 use mathlib.Core.Path.{sym, ◌∙◌}
 use Rattle.standing.specs.StandingLaws.{pass_kept}
-use Rattle.job.specs.PerformLaws.{performs_bad, performs_passed}
+use Rattle.job.proofs.PerformLaws.{performs_bad, performs_passed}
 use borrow.Author.Rules.{rules}
 use Rattle.job.proofs.perform.Statement.{statement}
 use Rattle.job.proofs.perform.Tie as tie

@@ -1,5 +1,5 @@
 -- The first byte says the size.
-use Rattle.job.specs.PerformLaws.{size_none}
+use Rattle.job.proofs.PerformLaws.{size_none}
 use borrow.Author.Rules.{rules}
 use Rattle.job.proofs.size_at.Statement.{statement}
 use Rattle.job.proofs.size_at.Tie as tie

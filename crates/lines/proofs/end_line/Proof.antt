@@ -1,7 +1,7 @@
 -- `end_line` meets its contract: piece after piece. Assumes nothing.
 use borrow.Author.Rules.{rules}
 use Rattle.lines.specs.Lines.{end_word}
-use Rattle.lines.specs.LinesLaws.{begun, ended}
+use Rattle.lines.proofs.LinesLaws.{begun, ended}
 use Rattle.lines.proofs.end_line.Statement.{statement}
 use Rattle.lines.proofs.end_line.Tie as tie
 

@@ -3,7 +3,7 @@ use borrow.Author.Rules.{rules}
 use native.Mathlib.Omega.{arith}
 use Rattle.lines.specs.Lines.{figures_word}
 use Rattle.pieces.specs.DecimalLaws.{length_decimal_64}
-use Rattle.lines.specs.LinesLaws.{begun, more, ended}
+use Rattle.lines.proofs.LinesLaws.{begun, more, ended}
 use Rattle.lines.proofs.figures_line.Statement.{statement}
 use Rattle.lines.proofs.figures_line.Tie as tie
 

@@ -3,7 +3,7 @@ use borrow.Author.Rules.{rules}
 use native.Mathlib.Omega.{arith}
 use Prim.Native.Nat.{◌<◌}
 use Rattle.pieces.specs.DecimalLaws.{length_decimal_5}
-use Rattle.lines.specs.LinesLaws.{begun, more, more_list, ended}
+use Rattle.lines.proofs.LinesLaws.{begun, more, more_list, ended}
 use Rattle.lines.proofs.listed.Statement.{statement}
 use Rattle.lines.proofs.listed.Tie as tie
 

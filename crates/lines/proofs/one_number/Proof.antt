@@ -2,7 +2,7 @@
 use borrow.Author.Rules.{rules}
 use native.Mathlib.Omega.{arith}
 use Rattle.pieces.specs.DecimalLaws.{length_decimal_64}
-use Rattle.lines.specs.LinesLaws.{begun, more, ended}
+use Rattle.lines.proofs.LinesLaws.{begun, more, ended}
 use Rattle.lines.proofs.one_number.Statement.{statement}
 use Rattle.lines.proofs.one_number.Tie as tie
 

@@ -2,7 +2,7 @@
 use borrow.Author.Rules.{rules}
 use native.Mathlib.Omega.{arith}
 use Rattle.pieces.specs.DecimalLaws.{length_decimal_64}
-use Rattle.lines.specs.LinesLaws.{begun, more, ended}
+use Rattle.lines.proofs.LinesLaws.{begun, more, ended}
 use Rattle.lines.proofs.two_numbers.Statement.{statement}
 use Rattle.lines.proofs.two_numbers.Tie as tie
 

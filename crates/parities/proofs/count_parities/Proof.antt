@@ -5,9 +5,11 @@ use native.Mathlib.Omega.{arith}
 use borrow.Author.Rules.{rules}
 use Rattle.plan.specs.Layout.{layout}
 use Rattle.code.specs.Laws.ParityCount.{parities}
-use Rattle.tables.specs.Spots.{Reached, reached_on}
+use Rattle.tables.specs.Spots.{Reached}
+use Rattle.tables.proofs.Spots.{reached_on}
 use Rattle.tables.specs.Zeros.{zeros_long}
-use Rattle.tables.specs.Counting.{Seen, seen_at, seen_long, seen_start}
+use Rattle.tables.specs.Counting.{Seen}
+use Rattle.tables.proofs.Counting.{seen_at, seen_long, seen_start}
 use Rattle.parities.specs.Settling.{section_next, section_fits, sections_end, section_due, section_noted, all_noted}
 use Rattle.parities.proofs.count_parities.Statement.{statement}
 use Rattle.parities.proofs.count_parities.Tie as tie

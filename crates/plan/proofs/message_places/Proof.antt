@@ -1,5 +1,5 @@
 -- `message_places` meets its contract. Assumes nothing.
-use Rattle.plan.specs.PlanLaws.{divisor_most, messages_are}
+use Rattle.plan.proofs.PlanLaws.{divisor_most, messages_are}
 use lib.Seq.{length-take-le}
 use mathlib.Core.Path.{sym}
 use native.Mathlib.Nat.{mul-le-mul, le_refl}

@@ -1,9 +1,9 @@
 -- The front parts of the buffers are recovered.
 use mathlib.Core.Path.{sym}
 use native.Mathlib.Omega.{arith}
-use Rattle.plan.specs.PlanLaws.{good_bounds}
+use Rattle.plan.proofs.PlanLaws.{good_bounds}
 use Rattle.blocks.specs.RecoverLaws.{zeros_long}
-use Rattle.act.specs.StateLaws.{places_most, places_fit, bytes_fit, front_long}
+use Rattle.act.proofs.StateLaws.{places_most, places_fit, bytes_fit, front_long}
 use Rattle.blocks.specs.BlockLaws.{lent_whole, recovered_acts}
 use borrow.Author.Rules.{rules}
 use Rattle.recovering.proofs.recover_state.Statement.{statement}

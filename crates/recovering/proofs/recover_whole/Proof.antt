@@ -1,7 +1,7 @@
 -- `recover_whole` meets its contract. Assumes nothing.
 use native.Mathlib.Omega.{arith}
 use Rattle.blocks.specs.RecoverLaws.{loose_within, crossed_within, recovered_forest, on_recovered, on_loose, on_crossed, by_success, by_loose, by_crossed}
-use Rattle.lines.specs.LinesLaws.{wrote_at, wrote_front}
+use Rattle.lines.proofs.LinesLaws.{wrote_at, wrote_front}
 use Rattle.pieces.specs.PiecesLaws.{appends_both}
 use borrow.Author.Rules.{rules}
 use Rattle.recovering.proofs.recover_whole.Statement.{statement}

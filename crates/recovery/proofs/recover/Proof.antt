@@ -4,7 +4,7 @@ use Rattle.recovery.proofs.recover.Statement.{statement}
 use Rattle.recovery.proofs.recover.Tie as tie
 use mathlib.Core.Path.{sym, ◌∙◌}
 use Rattle.promises.specs.Promises.{recover_lent}
-use Rattle.promises.specs.Building.{recovers_refused}
+use Rattle.promises.proofs.Building.{recovers_refused}
 use Rattle.deciding.specs.Attempts.{call_given, call_decided}
 
 decide-requires : tie.Need-decide-requires

@@ -3,7 +3,7 @@ use mathlib.Core.Path.{sym, ◌∙◌}
 use native.Mathlib.Omega.{arith}
 use Rattle.plan.specs.Layout.{layout}
 use Rattle.code.specs.Marks.{erasures}
-use Rattle.code.specs.Laws.MarksLaws.{erasures_erased}
+use Rattle.code.proofs.Laws.MarksLaws.{erasures_erased}
 use Rattle.tables.specs.Zeros.{zeros_long}
 use Rattle.rounding.specs.AllRounds.{Counting, zero_block, counting_start, counting_step, counting_few, counting_long, counting_end}
 use Rattle.rounding.proofs.count_rounds.Statement.{statement}

@@ -2,7 +2,7 @@
 use mathlib.Core.Path.{sym}
 use native.Mathlib.Omega.{arith}
 use Rattle.plan.specs.Plans.{layout_of}
-use Rattle.plan.specs.PlanLaws.{good_bounds}
+use Rattle.plan.proofs.PlanLaws.{good_bounds}
 use Rattle.rounding.specs.AllRounds.{plan_lent, plan_table}
 use borrow.Author.Rules.{rules}
 use Rattle.rounding.proofs.rounds.Statement.{statement}

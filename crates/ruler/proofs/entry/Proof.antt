@@ -1,6 +1,6 @@
 -- `ruler::entry` meets its contract: the code's table is the flat table of the rulers. Assumes nothing.
 use Rattle.ruler.specs.Ruler.{rulers}
-use Rattle.ruler.specs.RulerLaws.{flat, flat_entry}
+use Rattle.ruler.proofs.RulerLaws.{flat, flat_entry}
 use borrow.Author.Rules.{rules}
 use native.Mathlib.Omega.{arith}
 use Rattle.ruler.proofs.entry.Statement.{statement}

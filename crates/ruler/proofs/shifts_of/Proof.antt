@@ -1,7 +1,7 @@
 -- `ruler::shifts_of` meets its contract. The loop's invariant: the array holds the first i shifts of the row. Assumes nothing.
 use Prim.Native.Nat.{◌≤◌, ◌-◌}
 use Rattle.ruler.specs.Ruler.{ruler_shifts}
-use Rattle.ruler.specs.RulerLaws.{ruler_length, ruler_shift}
+use Rattle.ruler.proofs.RulerLaws.{ruler_length, ruler_shift}
 use Rattle.shifts.specs.Shifts.{padded}
 use Rattle.shifts.specs.ShiftsLaws.{padded_none, copied_more, copied_done}
 use borrow.Author.Rules.{rules}

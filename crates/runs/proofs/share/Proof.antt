@@ -3,7 +3,7 @@ use mathlib.Core.Path.{◌≡◌}
 use Prim.Native.Nat.{ℕ, ◌≤◌, ◌<◌}
 use native.Mathlib.Omega.{arith}
 use Rattle.math.specs.Gcd.{gcd}
-use Rattle.math.specs.GcdLaws.{gcd_pos, gcd_le}
+use Rattle.math.proofs.GcdLaws.{gcd_pos, gcd_le}
 use borrow.Author.Rules.{rules}
 use Rattle.runs.proofs.share.Statement.{statement}
 use Rattle.runs.proofs.share.Tie as tie

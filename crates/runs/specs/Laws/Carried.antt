@@ -8,13 +8,14 @@ use Rattle.refusals.specs.declared.Check.TheVariants.{Pass}
 use Rattle.math.specs.Members.{◌∈◌}
 use Rattle.plan.specs.Layout.{Layout, Valid, layout, message_count}
 use Rattle.plan.specs.Plans.{layout_of, plan_check}
-use Rattle.plan.specs.PlanLaws.{good_bounds, good_valid}
+use Rattle.plan.proofs.PlanLaws.{good_bounds, good_valid}
 use Rattle.plan.specs.declared.Plan.{Plan}
 use Rattle.plan.specs.GoodPlan.{GoodPlan, plan_valid}
 use Rattle.code.specs.Codewords.{Codeword, Agrees}
 use Rattle.code.specs.Messages.{Carries}
-use Rattle.code.specs.Laws.Basics.{places_∈}
-use Rattle.code.specs.Laws.ParityCount.{parities, messages, parity_lists, message_lists}
+use Rattle.code.proofs.Laws.Basics.{places_∈}
+use Rattle.code.specs.Laws.ParityCount.{parities, messages}
+use Rattle.code.proofs.Laws.ParityCount.{parity_lists, message_lists}
 use Rattle.runs.specs.Laws.Fronts.{count_messages}
 
 map_same : (f g : ℕ → ℕ) (l : List ℕ) → ((c : ℕ) → c ∈ l → f c ≡ g c) → map f l ≡ map g l

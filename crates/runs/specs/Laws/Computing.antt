@@ -11,12 +11,12 @@ use Rattle.std.proofs.Math.ListN.{get_or, length-replicate, length-set}
 use Rattle.std.proofs.Math.Seq.{get_or-set_same, get_or-set_other}
 use Rattle.math.specs.Padded.{zeros_at}
 use Rattle.math.specs.Gcd.{gcd, gap}
-use Rattle.math.specs.GcdLaws.{gcd_le}
+use Rattle.math.proofs.GcdLaws.{gcd_le}
 use Rattle.math.specs.Members.{from, up_to}
 use Rattle.plan.specs.Layout.{Layout, Valid, layout}
 use Rattle.plan.specs.GoodPlan.{GoodPlan, plan_valid}
 use Rattle.code.specs.Laws.Forest.{last_of, divisor_from, run, run_in, run_of}
-use Rattle.code.specs.Laws.ClosedForm.{last_of_tail, last_of_one, run_last, run_more, run_in_head, run_in_tail, divisor_from_base, divisor_from_le, divisor_from_step, divisor_from_dvd, divisor_from_last}
+use Rattle.code.proofs.Laws.ClosedForm.{last_of_tail, last_of_one, run_last, run_more, run_in_head, run_in_tail, divisor_from_base, divisor_from_le, divisor_from_step, divisor_from_dvd, divisor_from_last}
 use Rattle.runs.specs.Runs.{RunsOf}
 
 -- the list from a on, taken apart

@@ -15,9 +15,10 @@ use Rattle.math.specs.MembersLaws.{∈_up_to, up_to_∈, ∈_from, from_∈, len
 use Rattle.plan.specs.Layout.{Layout, Valid, divisor, message_count}
 use Rattle.code.specs.Places.{places}
 use Rattle.code.specs.Messages.{Parity}
-use Rattle.code.specs.Laws.Basics.{places_∈, ∈_places, place_split}
-use Rattle.code.specs.Laws.ClosedForm.{closed_form}
-use Rattle.code.specs.Laws.ParityCount.{parities, messages, parity_lists, message_lists, parity_or_message, length_messages}
+use Rattle.code.proofs.Laws.Basics.{places_∈, ∈_places, place_split}
+use Rattle.code.proofs.Laws.ClosedForm.{closed_form}
+use Rattle.code.specs.Laws.ParityCount.{parities, messages}
+use Rattle.code.proofs.Laws.ParityCount.{parity_lists, message_lists, parity_or_message, length_messages}
 use Rattle.runs.specs.Runs.{RunsOf}
 use Rattle.runs.specs.Laws.Computing.{run_le}
 

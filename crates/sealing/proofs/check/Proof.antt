@@ -3,7 +3,7 @@ use Prim.Native.Nat.{ℕ}
 use mathlib.Core.Path.{sym, ◌∙◌, ap}
 use native.Mathlib.Omega.{arith}
 use lib.ListN.{length, length-replicate}
-use Rattle.plan.specs.PlanLaws.{good_bounds}
+use Rattle.plan.proofs.PlanLaws.{good_bounds}
 use Rattle.promises.specs.Promises.{message_lent}
 use Rattle.sealing.specs.Passing.{checks_stop, checks_lent}
 use borrow.Author.Rules.{rules}

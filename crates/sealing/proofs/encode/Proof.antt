@@ -1,7 +1,7 @@
 -- A call that passes is sealed; a call that stops keeps the block.
 use borrow.Author.Rules.{rules}
 use mathlib.Core.Path.{sym, ◌∙◌}
-use Rattle.promises.specs.Building.{encodes_refused}
+use Rattle.promises.proofs.Building.{encodes_refused}
 use Rattle.sealing.specs.Passing.{pass_plan, pass_long, encoded}
 use Rattle.sealing.proofs.encode.Statement.{statement}
 use Rattle.sealing.proofs.encode.Tie as tie

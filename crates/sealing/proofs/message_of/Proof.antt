@@ -2,7 +2,7 @@
 use borrow.Author.Rules.{rules}
 use mathlib.Core.Path.{sym, ◌∙◌}
 use borrow.Author.Tests.{not-true, not-false}
-use Rattle.promises.specs.Building.{reads_refused}
+use Rattle.promises.proofs.Building.{reads_refused}
 use Rattle.sealing.specs.Passing.{pass_plan, pass_long, read, crossed}
 use Rattle.sealing.proofs.message_of.Statement.{statement}
 use Rattle.sealing.proofs.message_of.Tie as tie

@@ -1,9 +1,9 @@
 -- The parity places are filled where the block stands.
 use mathlib.Core.Path.{refl}
 use Rattle.plan.specs.Plans.{layout_of}
-use Rattle.plan.specs.PlanLaws.{good_bounds}
+use Rattle.plan.proofs.PlanLaws.{good_bounds}
 use Rattle.code.specs.Laws.ParityCount.{messages}
-use Rattle.promises.specs.Building.{map_bytes}
+use Rattle.promises.proofs.Building.{map_bytes}
 use Rattle.parities.specs.Settling.{sealed}
 use borrow.Author.Rules.{rules}
 use Rattle.sealing.proofs.reseal.Statement.{statement}

@@ -1,7 +1,7 @@
 -- `gcd` meets its contract. The loop keeps the divisor of the two numbers, and the second one falls. Assumes nothing.
 use Prim.Native.Nat.{ℕ}
 use Rattle.math.specs.Gcd.{gcd}
-use Rattle.math.specs.GcdLaws.{gcd_step, gcd_zero_right}
+use Rattle.math.proofs.GcdLaws.{gcd_step, gcd_zero_right}
 use borrow.Author.Rules.{rules}
 use mathlib.Core.Path.{◌≡◌, refl, sym, ◌∙◌, ap}
 use native.Mathlib.Nat.{mod-lt}

@@ -1,6 +1,6 @@
 -- `check_state` meets its contract. Assumes nothing.
 use Rattle.standing.specs.StandingLaws.{no_plan_lem, plan_stops, plan_passes}
-use Rattle.plan.specs.PlanLaws.{good_bounds}
+use Rattle.plan.proofs.PlanLaws.{good_bounds}
 use mathlib.Core.Path.{sym, ◌∙◌}
 use native.Mathlib.Omega.{arith}
 use borrow.Author.Rules.{rules}

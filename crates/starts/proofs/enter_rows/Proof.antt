@@ -4,8 +4,8 @@ use mathlib.Core.Logic.{inl, inr}
 use native.Mathlib.Omega.{arith}
 use borrow.Author.Rules.{rules}
 use Rattle.tables.specs.Picture.{counts}
-use Rattle.tables.specs.Spots.{reached_stands}
-use Rattle.tables.specs.Scan.{marked_inside}
+use Rattle.tables.proofs.Spots.{reached_stands}
+use Rattle.tables.proofs.Scan.{marked_inside}
 use Rattle.starts.specs.Starts.{spot_rows, starting_long, top_room, bottom_room, starting_more}
 use Rattle.starts.proofs.enter_rows.Statement.{statement}
 use Rattle.starts.proofs.enter_rows.Tie as tie

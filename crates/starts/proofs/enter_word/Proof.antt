@@ -3,7 +3,8 @@ use mathlib.Core.Path.{sym, ◌∙◌}
 use Prim.Native.Nat.{◌*◌}
 use native.Mathlib.Omega.{arith}
 use Rattle.bits.specs.Lowest.{dropped_less}
-use Rattle.tables.specs.WordWalk.{WordWalk, walk_start, walk_bit, walk_marked, walk_at, walk_reached, walk_more, walk_done, walk_section}
+use Rattle.tables.specs.WordWalk.{WordWalk}
+use Rattle.tables.proofs.WordWalk.{walk_start, walk_bit, walk_marked, walk_at, walk_reached, walk_more, walk_done, walk_section}
 use Rattle.starts.specs.Starts.{Starting, starting_skips}
 use Rattle.starts.proofs.enter_word.Statement.{statement}
 use Rattle.starts.proofs.enter_word.Tie as tie

@@ -4,8 +4,9 @@ use Prim.Native.Nat.{◌-◌, ◌*◌}
 use native.Mathlib.Omega.{arith}
 use borrow.Author.Rules.{rules}
 use lib.ListN.{length}
-use Rattle.tables.specs.Spots.{Reached, reached_on}
-use Rattle.tables.specs.Scan.{words_end}
+use Rattle.tables.specs.Spots.{Reached}
+use Rattle.tables.proofs.Spots.{reached_on}
+use Rattle.tables.proofs.Scan.{words_end}
 use Rattle.starts.specs.Starts.{Starting, starting_none, starting_at, starting_clear, starting_end, append_room, seeded_many, seeded_are}
 use Rattle.starts.proofs.seed_scattered.Statement.{statement}
 use Rattle.starts.proofs.seed_scattered.Tie as tie

@@ -1,5 +1,5 @@
 -- A job that goes on goes further.
-use Rattle.stream.specs.WorksLaws.{advances_goes, advances_over, not_closed, not_past, not_lost}
+use Rattle.stream.proofs.WorksLaws.{advances_goes, advances_over, not_closed, not_past, not_lost}
 use borrow.Author.Rules.{rules}
 use Rattle.streaming.proofs.advance.Statement.{statement}
 use Rattle.streaming.proofs.advance.Tie as tie

@@ -10,8 +10,8 @@ use native.Mathlib.Omega.{arith}
 use borrow.Author.Tests.{lt-ltb}
 use Rattle.io.specs.Counts.{clamp_len}
 use Rattle.stream.specs.Streams.{taken_of, brought_of}
-use Rattle.stream.specs.Theorems.{full_lost}
-use Rattle.stream.specs.WorksLaws.{back_long, clamped_fits}
+use Rattle.stream.proofs.Theorems.{full_lost}
+use Rattle.stream.proofs.WorksLaws.{back_long, clamped_fits}
 use borrow.Author.Rules.{rules}
 use Rattle.streaming.proofs.brought.Statement.{statement}
 use Rattle.streaming.proofs.brought.Tie as tie

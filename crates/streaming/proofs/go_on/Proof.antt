@@ -4,7 +4,7 @@ use native.Mathlib.Omega.{arith}
 use Prim.Native.Nat.{◌-◌}
 use lib.ListN.{length, drop}
 use Rattle.reading.specs.Cursors.{reach_of}
-use Rattle.stream.specs.WorksLaws.{stream_ready, part_fits_lem, reach_fits, below_fits, below_inside, went_to}
+use Rattle.stream.proofs.WorksLaws.{stream_ready, part_fits_lem, reach_fits, below_fits, below_inside, went_to}
 use borrow.Author.Rules.{rules}
 use Rattle.streaming.proofs.go_on.Statement.{statement}
 use Rattle.streaming.proofs.go_on.Tie as tie

@@ -1,6 +1,6 @@
 -- A read that was asked for.
 use mathlib.Core.Path.{sym, ◌∙◌}
-use Rattle.stream.specs.WorksLaws.{taken_filled, taken_last, taken_goes, taken_over, over_closed, over_past, over_lost}
+use Rattle.stream.proofs.WorksLaws.{taken_filled, taken_last, taken_goes, taken_over, over_closed, over_past, over_lost}
 use borrow.Author.Rules.{rules}
 use Rattle.streaming.proofs.taken.Statement.{statement}
 use Rattle.streaming.proofs.taken.Tie as tie

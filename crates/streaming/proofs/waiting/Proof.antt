@@ -1,5 +1,5 @@
 -- The part that waits.
-use Rattle.stream.specs.WorksLaws.{front_part, front_long}
+use Rattle.stream.proofs.WorksLaws.{front_part, front_long}
 use borrow.Author.Rules.{rules}
 use Rattle.streaming.proofs.waiting.Statement.{statement}
 use Rattle.streaming.proofs.waiting.Tie as tie

@@ -1,6 +1,6 @@
 -- What refuses the lent state, then the commands at hand.
 use mathlib.Core.Path.{sym, ◌∙◌}
-use Rattle.stream.specs.WorksLaws.{works_bad, works_passed}
+use Rattle.stream.proofs.WorksLaws.{works_bad, works_passed}
 use borrow.Author.Rules.{rules}
 use Rattle.streaming.proofs.work.Statement.{statement}
 use Rattle.streaming.proofs.work.Tie as tie

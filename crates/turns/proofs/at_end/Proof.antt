@@ -2,8 +2,8 @@
 use mathlib.Core.Path.{refl}
 use native.Mathlib.Omega.{arith}
 use borrow.Author.Tests.{not-true, not-false}
-use Rattle.lines.specs.LinesLaws.{wrote_at}
-use Rattle.turns.specs.TurnLaws.{same, on_nothing_yet, on_end, says_end}
+use Rattle.lines.proofs.LinesLaws.{wrote_at}
+use Rattle.turns.proofs.TurnLaws.{same, on_nothing_yet, on_end, says_end}
 use borrow.Author.Rules.{rules}
 use Rattle.turns.proofs.at_end.Statement.{statement}
 use Rattle.turns.proofs.at_end.Tie as tie

@@ -1,7 +1,7 @@
 -- `cut_off` meets its contract. Assumes nothing.
 use mathlib.Core.Path.{refl}
 use borrow.Author.Tests.{not-true, not-false}
-use Rattle.turns.specs.TurnLaws.{same, on_cut_yet, on_short}
+use Rattle.turns.proofs.TurnLaws.{same, on_cut_yet, on_short}
 use borrow.Author.Rules.{rules}
 use Rattle.turns.proofs.cut_off.Statement.{statement}
 use Rattle.turns.proofs.cut_off.Tie as tie

@@ -1,7 +1,7 @@
 -- `stop` meets its contract. Assumes nothing.
 use mathlib.Core.Path.{refl}
-use Rattle.lines.specs.LinesLaws.{wrote_at}
-use Rattle.turns.specs.TurnLaws.{says_refused}
+use Rattle.lines.proofs.LinesLaws.{wrote_at}
+use Rattle.turns.proofs.TurnLaws.{says_refused}
 use borrow.Author.Rules.{rules}
 use Rattle.turns.proofs.stop.Statement.{statement}
 use Rattle.turns.proofs.stop.Tie as tie

@@ -1,6 +1,6 @@
 -- `unknown` meets its contract. Assumes nothing.
 use mathlib.Core.Path.{refl}
-use Rattle.turns.specs.TurnLaws.{on_unknown}
+use Rattle.turns.proofs.TurnLaws.{on_unknown}
 use borrow.Author.Rules.{rules}
 use Rattle.turns.proofs.unknown.Statement.{statement}
 use Rattle.turns.proofs.unknown.Tie as tie

@@ -2,7 +2,7 @@
 use mathlib.Core.Path.{◌∙◌}
 use native.Mathlib.Omega.{arith}
 use Prim.Native.Nat.{◌+◌, ◌*◌, ◌/◌}
-use Rattle.act.specs.StateLaws.{places_most, places_fit, bytes_fit, front_long, cleared_front, part_long, part_rest, begun}
+use Rattle.act.proofs.StateLaws.{places_most, places_fit, bytes_fit, front_long, cleared_front, part_long, part_rest, begun}
 use borrow.Author.Rules.{rules}
 use Rattle.act.proofs.plans.begin.Statement.{statement}
 use Rattle.act.proofs.plans.begin.Tie as tie

@@ -2,7 +2,7 @@
 use mathlib.Core.Path.{sym, ◌∙◌}
 use mathlib.Core.Bool.{true≢false}
 use Rattle.state.proofs.Tags.{tag_makes_none}
-use Rattle.act.specs.ActLaws.{blank_makes, straight_makes, powers_makes, ruler_makes, makes_by}
+use Rattle.act.proofs.ActLaws.{blank_makes, straight_makes, powers_makes, ruler_makes, makes_by}
 use borrow.Author.Rules.{rules}
 use Rattle.act.proofs.plans.made.Statement.{statement}
 use Rattle.act.proofs.plans.made.Tie as tie

@@ -3,8 +3,8 @@ use mathlib.Core.List.{[]}
 use mathlib.Core.Path.{sym, subst}
 use Rattle.plan.specs.declared.Plan.{Plan}
 use Rattle.act.specs.Acts.{state_of, Acts}
-use Rattle.act.specs.StateLaws.{holding, shift_inside}
-use Rattle.act.specs.ActLaws.{shifted}
+use Rattle.act.proofs.StateLaws.{holding, shift_inside}
+use Rattle.act.proofs.ActLaws.{shifted}
 use Rattle.commands.specs.declared.Command.TheVariants.{SetShift}
 use borrow.Author.Rules.{rules}
 use Rattle.act.proofs.plans.set_shift.Statement.{statement}

@@ -1,7 +1,7 @@
 -- Marks are set.
 use native.Mathlib.Omega.{arith}
-use Rattle.act.specs.StateLaws.{mark_inside, places_most}
-use Rattle.act.specs.ActLaws.{one_marked}
+use Rattle.act.proofs.StateLaws.{mark_inside, places_most}
+use Rattle.act.proofs.ActLaws.{one_marked}
 use Rattle.act.specs.Acts.{state_of}
 use borrow.Author.Rules.{rules}
 use Rattle.act.proofs.symbols.mark_one.Statement.{statement}

@@ -1,7 +1,7 @@
 -- Marks are set.
 use native.Mathlib.Omega.{arith}
-use Rattle.act.specs.StateLaws.{run_inside, places_most}
-use Rattle.act.specs.ActLaws.{run_marked}
+use Rattle.act.proofs.StateLaws.{run_inside, places_most}
+use Rattle.act.proofs.ActLaws.{run_marked}
 use Rattle.act.specs.Acts.{state_of}
 use borrow.Author.Rules.{rules}
 use Rattle.act.proofs.symbols.mark_run.Statement.{statement}

@@ -1,7 +1,7 @@
 -- The symbol is stored and the mark cleared.
 use native.Mathlib.Omega.{arith}
-use Rattle.act.specs.StateLaws.{place_inside, places_most}
-use Rattle.act.specs.ActLaws.{symbol_set}
+use Rattle.act.proofs.StateLaws.{place_inside, places_most}
+use Rattle.act.proofs.ActLaws.{symbol_set}
 use Rattle.act.specs.Acts.{state_of}
 use borrow.Author.Rules.{rules}
 use Rattle.act.proofs.symbols.set_symbol.Statement.{statement}

@@ -1,9 +1,9 @@
 -- The symbol at the place is written.
 use native.Mathlib.Omega.{arith}
-use Rattle.act.specs.StateLaws.{show_inside, places_most}
-use Rattle.act.specs.ActLaws.{shown}
+use Rattle.act.proofs.StateLaws.{show_inside, places_most}
+use Rattle.act.proofs.ActLaws.{shown}
 use Rattle.act.specs.Acts.{state_of}
-use Rattle.lines.specs.LinesLaws.{wrote_at, wrote_front}
+use Rattle.lines.proofs.LinesLaws.{wrote_at, wrote_front}
 use borrow.Author.Rules.{rules}
 use Rattle.act.proofs.symbols.show.Statement.{statement}
 use Rattle.act.proofs.symbols.show.Tie as tie

@@ -1,6 +1,6 @@
 -- `parity::count` meets its contract. Assumes nothing.
 use Rattle.differences.specs.SectionsLaws.{parity_is}
-use Rattle.plan.specs.PlanLaws.{divisor_most}
+use Rattle.plan.proofs.PlanLaws.{divisor_most}
 use borrow.Author.Rules.{rules}
 use lib.Seq.{length-take-le}
 use mathlib.Core.Path.{sym}

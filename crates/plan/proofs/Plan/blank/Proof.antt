@@ -1,7 +1,7 @@
 -- `Plan::blank` meets its contract. Assumes nothing.
 use Rattle.plan.proofs.Answers.{failed, passed, blank_size, blank_made}
 use Rattle.shifts.specs.ShiftsLaws.{padded_zeros}
-use Rattle.plan.specs.PlanLaws.{size_fitting}
+use Rattle.plan.proofs.PlanLaws.{size_fitting}
 use mathlib.Core.Path.{◌∙◌}
 use borrow.Author.Rules.{rules}
 use Rattle.plan.proofs.Plan.blank.Statement.{statement}

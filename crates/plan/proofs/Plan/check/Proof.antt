@@ -1,6 +1,6 @@
 -- `Plan::check` meets its contract. Assumes nothing.
 use Rattle.plan.proofs.Answers.{failed, passed, check_size, check_shifts}
-use Rattle.plan.specs.PlanLaws.{size_fitting}
+use Rattle.plan.proofs.PlanLaws.{size_fitting}
 use lib.ListN.{length}
 use lib.Seq.{length-take-le}
 use mathlib.Core.Path.{◌≡◌, sym}

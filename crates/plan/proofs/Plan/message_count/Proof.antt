@@ -1,5 +1,5 @@
 -- `Plan::message_count` meets its contract. Assumes nothing.
-use Rattle.plan.specs.PlanLaws.{good_bounds, count_is, count_not}
+use Rattle.plan.proofs.PlanLaws.{good_bounds, count_is, count_not}
 use Rattle.plan.specs.Plans.{layout_of}
 use Rattle.refusals.specs.Refusals.{check_number}
 use mathlib.Core.Path.{sym, ◌∙◌, ap}

@@ -1,6 +1,6 @@
 -- `Plan::of` meets its contract. Assumes nothing.
 use Rattle.plan.proofs.Answers.{failed, passed, shifts_long, of_size, of_refused, of_made}
-use Rattle.plan.specs.PlanLaws.{size_fitting}
+use Rattle.plan.proofs.PlanLaws.{size_fitting}
 use mathlib.Core.Path.{sym, ◌∙◌}
 use native.Mathlib.Omega.{arith}
 use borrow.Author.Rules.{rules}

@@ -1,6 +1,6 @@
 -- `Plan::straight` meets its contract: each answer by the test that gives it. Assumes nothing.
 use Rattle.plan.proofs.Answers.{failed, passed, straight_size, straight_not, straight_made}
-use Rattle.plan.specs.PlanLaws.{size_fitting}
+use Rattle.plan.proofs.PlanLaws.{size_fitting}
 use borrow.Author.Rules.{rules}
 use mathlib.Core.Path.{◌∙◌}
 use native.Mathlib.Omega.{arith}

@@ -1,7 +1,7 @@
 -- `Check::earlier` meets its contract, case by case. Assumes nothing.
 use borrow.Author.Rules.{rules}
 use mathlib.Core.Path.{◌∙◌, ap}
-use Rattle.refusals.specs.RefusalLaws.{earlier_by}
+use Rattle.refusals.proofs.RefusalLaws.{earlier_by}
 use Rattle.refusals.specs.declared.Check.TheVariants.{Stop}
 use Rattle.refusals.proofs.Check.earlier.Statement.{statement}
 use Rattle.refusals.proofs.Check.earlier.Tie as tie

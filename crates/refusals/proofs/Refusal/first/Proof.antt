@@ -1,6 +1,6 @@
 -- `Refusal::first` meets its contract. Assumes nothing.
 use borrow.Author.Rules.{rules}
-use Rattle.refusals.specs.RefusalLaws.{first_left, first_right}
+use Rattle.refusals.proofs.RefusalLaws.{first_left, first_right}
 use Rattle.refusals.proofs.Refusal.first.Statement.{statement}
 use Rattle.refusals.proofs.Refusal.first.Tie as tie
 

@@ -1,7 +1,7 @@
 -- By what the turn comes to.
 use mathlib.Core.Path.{refl}
 use native.Mathlib.Omega.{arith}
-use Rattle.stream.specs.CourseLaws.{on_fits, end_fits, stop_fits, plus_none}
+use Rattle.stream.proofs.CourseLaws.{on_fits, end_fits, stop_fits, plus_none}
 use borrow.Author.Rules.{rules}
 use Rattle.streaming.proofs.progress.after_turn.Statement.{statement}
 use Rattle.streaming.proofs.progress.after_turn.Tie as tie

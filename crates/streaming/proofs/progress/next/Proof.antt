@@ -2,7 +2,7 @@
 use native.Mathlib.Omega.{arith}
 use mathlib.Core.Path.{refl}
 use mathlib.Core.Bool.{true}
-use Rattle.stream.specs.CourseLaws.{course_both}
+use Rattle.stream.proofs.CourseLaws.{course_both}
 use borrow.Author.Rules.{rules}
 use Rattle.streaming.proofs.progress.next.Statement.{statement}
 use Rattle.streaming.proofs.progress.next.Tie as tie

@@ -4,7 +4,7 @@ use native.Mathlib.Omega.{arith}
 use lib.ListN.{length}
 use Rattle.stream.specs.Course.{Course}
 use Rattle.one_sheet.specs.Begins.{left, left_less}
-use Rattle.stream.specs.CourseLaws.{course_none, course_both}
+use Rattle.stream.proofs.CourseLaws.{course_none, course_both}
 use Rattle.streaming.proofs.progress.perform_all.Statement.{statement}
 use Rattle.streaming.proofs.progress.perform_all.Tie as tie
 

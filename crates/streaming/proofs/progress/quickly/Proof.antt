@@ -1,8 +1,8 @@
 -- Without a plan nothing is done.
 use native.Mathlib.Omega.{arith}
 use borrow.Author.Tests.{not-false}
-use Rattle.stream.specs.CourseLaws.{course_none, course_quick}
-use Rattle.act.specs.StateLaws.{places_most}
+use Rattle.stream.proofs.CourseLaws.{course_none, course_quick}
+use Rattle.act.proofs.StateLaws.{places_most}
 use borrow.Author.Rules.{rules}
 use Rattle.streaming.proofs.progress.quickly.Statement.{statement}
 use Rattle.streaming.proofs.progress.quickly.Tie as tie

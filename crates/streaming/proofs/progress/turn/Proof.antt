@@ -3,7 +3,7 @@ use mathlib.Core.Path.{refl}
 use Prim.Native.Nat.{◌+◌}
 use Rattle.lines.specs.Lines.{line_length}
 use native.Mathlib.Omega.{arith}
-use Rattle.stream.specs.CourseLaws.{course_full, course_turn}
+use Rattle.stream.proofs.CourseLaws.{course_full, course_turn}
 use borrow.Author.Rules.{rules}
 use Rattle.streaming.proofs.progress.turn.Statement.{statement}
 use Rattle.streaming.proofs.progress.turn.Tie as tie

@@ -1,7 +1,7 @@
 -- `tables::marks::note` meets its contract: two stores, at the top row and then at the bottom row.
 use mathlib.Core.Path.{◌∙◌}
 use borrow.Author.Rules.{rules}
-use Rattle.tables.specs.Counting.{ready_top, ready_bottom, room_top, room_bottom, noted}
+use Rattle.tables.proofs.Counting.{ready_top, ready_bottom, room_top, room_bottom, noted}
 use Rattle.tables.proofs.marks.note.Statement.{statement}
 use Rattle.tables.proofs.marks.note.Tie as tie
 

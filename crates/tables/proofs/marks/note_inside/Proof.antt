@@ -3,9 +3,11 @@ use mathlib.Core.Path.{sym, ◌∙◌}
 use Prim.Native.Nat.{◌*◌}
 use native.Mathlib.Omega.{arith}
 use Rattle.bits.specs.Lowest.{dropped_less}
-use Rattle.tables.specs.Counting.{seen_long, due_here, noted_here}
-use Rattle.tables.specs.WordWalk.{WordWalk, walk_start, walk_bit, walk_reached, walk_done}
-use Rattle.tables.specs.Scan.{Scanned, scanned_skips, noting_due, noting_more}
+use Rattle.tables.proofs.Counting.{seen_long, due_here, noted_here}
+use Rattle.tables.specs.WordWalk.{WordWalk}
+use Rattle.tables.proofs.WordWalk.{walk_start, walk_bit, walk_reached, walk_done}
+use Rattle.tables.specs.Scan.{Scanned}
+use Rattle.tables.proofs.Scan.{scanned_skips, noting_due, noting_more}
 use Rattle.tables.proofs.marks.note_inside.Statement.{statement}
 use Rattle.tables.proofs.marks.note_inside.Tie as tie
 

@@ -3,9 +3,11 @@ use mathlib.Core.Path.{sym, ◌∙◌}
 use Prim.Native.Nat.{◌+◌, ◌-◌, ◌*◌, ◌/◌, ◌<◌}
 use native.Mathlib.Omega.{arith}
 use lib.ListN.{length}
-use Rattle.tables.specs.Spots.{Reached, reached_on}
-use Rattle.tables.specs.Counting.{seen_long}
-use Rattle.tables.specs.Scan.{Scanned, scanned_at, scanned_clear, scanned_end, scanned_first, scanned_start, words_end}
+use Rattle.tables.specs.Spots.{Reached}
+use Rattle.tables.proofs.Spots.{reached_on}
+use Rattle.tables.proofs.Counting.{seen_long}
+use Rattle.tables.specs.Scan.{Scanned}
+use Rattle.tables.proofs.Scan.{scanned_at, scanned_clear, scanned_end, scanned_first, scanned_start, words_end}
 use Rattle.tables.specs.Zeros.{zeros_long}
 use Rattle.tables.proofs.marks.note_marks.Statement.{statement}
 use Rattle.tables.proofs.marks.note_marks.Tie as tie

@@ -1,7 +1,7 @@
 -- `tables::marks::note_next` meets its contract: the place is noted in the section that is reached.
 use borrow.Author.Rules.{rules}
 use native.Mathlib.Omega.{arith}
-use Rattle.tables.specs.Counting.{due_here, due_inside, noted_here}
+use Rattle.tables.proofs.Counting.{due_here, due_inside, noted_here}
 use Rattle.tables.proofs.marks.note_next.Statement.{statement}
 use Rattle.tables.proofs.marks.note_next.Tie as tie
 

@@ -2,8 +2,10 @@
 use mathlib.Core.Path.{sym, ◌∙◌}
 use Prim.Native.Nat.{◌-◌, ◌≤◌}
 use native.Mathlib.Omega.{arith}
-use Rattle.tables.specs.Spots.{Reached, reached_on}
-use Rattle.tables.specs.Counting.{Due, Notes, due_inside, due_long, due_part, due_then, notes_at, notes_none, notes_then}
+use Rattle.tables.specs.Spots.{Reached}
+use Rattle.tables.proofs.Spots.{reached_on}
+use Rattle.tables.specs.Counting.{Due, Notes}
+use Rattle.tables.proofs.Counting.{due_inside, due_long, due_part, due_then, notes_at, notes_none, notes_then}
 use Rattle.tables.proofs.marks.note_places.Statement.{statement}
 use Rattle.tables.proofs.marks.note_places.Tie as tie
 

@@ -1,6 +1,6 @@
 -- `tables::marks::note_stretch` meets its contract: the sweeps note the places one after the other.
 use borrow.Author.Rules.{rules}
-use Rattle.tables.specs.Stretches.{stretch_ready, run_notes}
+use Rattle.tables.proofs.Stretches.{stretch_ready, run_notes}
 use Rattle.tables.proofs.marks.note_stretch.Statement.{statement}
 use Rattle.tables.proofs.marks.note_stretch.Tie as tie
 

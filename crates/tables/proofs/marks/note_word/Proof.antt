@@ -1,8 +1,8 @@
 -- `tables::marks::note_word` meets its contract: a full word is noted in stretches, another one place by place.
 use native.Mathlib.Omega.{arith}
 use borrow.Author.Rules.{rules}
-use Rattle.tables.specs.Spots.{reached_on}
-use Rattle.tables.specs.Stretches.{ones_due, ones_noted}
+use Rattle.tables.proofs.Spots.{reached_on}
+use Rattle.tables.proofs.Stretches.{ones_due, ones_noted}
 use Rattle.tables.proofs.marks.note_word.Statement.{statement}
 use Rattle.tables.proofs.marks.note_word.Tie as tie
 

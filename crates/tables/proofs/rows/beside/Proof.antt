@@ -1,7 +1,7 @@
 -- `tables::rows::beside` meets its contract: of each half, with and without a turn.
 use native.Mathlib.Omega.{arith}
 use borrow.Author.Rules.{rules}
-use Rattle.tables.specs.Beside.{beside_high, beside_low, beside_early, beside_late}
+use Rattle.tables.proofs.Beside.{beside_high, beside_low, beside_early, beside_late}
 use Rattle.tables.proofs.rows.beside.Statement.{statement}
 use Rattle.tables.proofs.rows.beside.Tie as tie
 

@@ -1,7 +1,7 @@
 -- `tables::rows::bottom` meets its contract: the bottom row with no division.
 use mathlib.Core.Path.{sym}
 use borrow.Author.Rules.{rules}
-use Rattle.tables.specs.Spots.{bottom_low, bottom_high}
+use Rattle.tables.proofs.Spots.{bottom_low, bottom_high}
 use Rattle.tables.proofs.rows.bottom.Statement.{statement}
 use Rattle.tables.proofs.rows.bottom.Tie as tie
 

@@ -1,6 +1,6 @@
 -- `tables::sweep::note_run` meets its contract: the tallies are swept for the top rows and for the bottom rows.
 use borrow.Author.Rules.{rules}
-use Rattle.tables.specs.Stretches.{run_apart, run_room, run}
+use Rattle.tables.proofs.Stretches.{run_apart, run_room, run}
 use Rattle.tables.proofs.sweep.note_run.Statement.{statement}
 use Rattle.tables.proofs.sweep.note_run.Tie as tie
 

@@ -3,7 +3,7 @@ use borrow.Author.Rules.{rules}
 use native.Mathlib.Omega.{arith}
 use mathlib.Core.Path.{◌≡◌, refl}
 use Prim.Native.Nat.{◌+◌, ◌-◌, ◌*◌, ◌≤◌, ◌<◌}
-use Rattle.tables.specs.Spots.{reached_end, section_next}
+use Rattle.tables.proofs.Spots.{reached_end, section_next}
 use Rattle.tables.proofs.walk.Section.reach.Statement.{statement}
 use Rattle.tables.proofs.walk.Section.reach.Tie as tie
 

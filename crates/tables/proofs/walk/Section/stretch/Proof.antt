@@ -1,7 +1,7 @@
 -- `tables::walk::Section::stretch` meets its contract: up to the end, and no further than where the bottom rows begin anew.
 use borrow.Author.Rules.{rules}
 use native.Mathlib.Omega.{arith}
-use Rattle.tables.specs.Stretches.{stretch_low, stretch_high}
+use Rattle.tables.proofs.Stretches.{stretch_low, stretch_high}
 use Rattle.tables.proofs.walk.Section.stretch.Statement.{statement}
 use Rattle.tables.proofs.walk.Section.stretch.Tie as tie
 

@@ -1,0 +1,3 @@
+pub mod FiguresOnce
+pub mod Laws
+pub mod Theorems

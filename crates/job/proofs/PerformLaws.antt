@@ -1,0 +1,36 @@
+-- How perform keeps its promise.
+-- Main results: performs_bad, performs_passed; size_none.
+use Rattle.std.specs.Prelude.{◌≡◌, refl, Bool, List, [], ◌∷◌, ℕ, length, get_or}
+use Rattle.std.proofs.Common.{ap, arith}
+use Rattle.refusals.specs.declared.Refusal.{Refusal}
+use Rattle.refusals.specs.declared.Check.TheVariants as check
+use Rattle.commands.specs.Commands.{size_of}
+use Rattle.act.specs.declared.Held.{Held}
+use Rattle.standing.specs.Standing.{held_check}
+use Rattle.turns.specs.Turns.{Turns}
+use Rattle.turns.proofs.TurnLaws.{same}
+use Rattle.turns.specs.declared.Turn.{Turn}
+use Rattle.turns.specs.declared.Turn.TheVariants.{Bad}
+use Rattle.job.specs.Performs.{Performs}
+
+zero_one : ◌≡◌ {A = ℕ} 0 1 → ⊥
+zero_one e = omega arith
+
+pub performs_bad : (h : Held) (v m l b : List ℕ) (last : Bool) (offset : ℕ) (x : Refusal) → held_check h v m l ≡ check.Stop x → Performs h v m l b last offset (Bad x) h v m l
+performs_bad h v m l b last offset x e = record {
+  bad = λ y q. let f : x ≡ y = cc in (ap Bad f, same h v m, refl);
+  passed = λ q. absurd (zero_one (cc));
+}
+
+pub performs_passed : {h : Held} {v m l b : List ℕ} {last : Bool} {offset : ℕ} {turn : Turn} {h' : Held} {v' m' l' : List ℕ} → held_check h v m l ≡ check.Pass →
+    Turns h v m l b last offset turn h' v' m' l' → Performs h v m l b last offset turn h' v' m' l'
+performs_passed e t = record {
+  bad = λ x q. absurd (zero_one (cc));
+  passed = λ _. t;
+}
+
+-- no byte says no command
+pub size_none : (b : List ℕ) → length b ≡ 0 → 0 ≡ size_of (get_or b 0 0)
+unfolding size_of
+size_none [] e = refl
+size_none (x ∷ b) e = absurd (omega arith)

@@ -1,0 +1,2 @@
+pub mod GcdLaws
+pub mod Residues

@@ -1,0 +1,2 @@
+pub mod PerformedLaws
+pub mod Struck

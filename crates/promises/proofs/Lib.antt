@@ -1,0 +1,5 @@
+pub mod Building
+pub mod MarksOf
+pub mod Numbers
+pub mod Once
+pub mod Theorems

@@ -1,0 +1,4 @@
+pub mod CourseLaws
+pub mod Theorems
+pub mod TraceLaws
+pub mod WorksLaws
