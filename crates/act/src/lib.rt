@@ -11,7 +11,7 @@ pub mod plans;
 pub mod symbols;
 
 // The plan of a job, or none.
-#[derive(Drop)]
+#[derive(Clone, Copy)]
 pub struct Held {
     pub planned: bool,
     pub plan: Plan,

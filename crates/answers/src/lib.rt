@@ -7,7 +7,7 @@ ghost use Rattle.answers.specs.Answers.{recovery_number, recovery_count, encodin
 
 use refusals::Refusal;
 
-#[derive(Drop)]
+#[derive(Clone, Copy)]
 pub enum Recovery {
     Recovered,
     Crossed(usize),
@@ -15,20 +15,20 @@ pub enum Recovery {
     Refused(Refusal),
 }
 
-#[derive(Drop)]
+#[derive(Clone, Copy)]
 pub enum Encoding {
     Encoded,
     Refused(Refusal),
 }
 
-#[derive(Drop)]
+#[derive(Clone, Copy)]
 pub enum Reading {
     Read,
     Crossed,
     Refused(Refusal),
 }
 
-#[derive(Drop)]
+#[derive(Clone, Copy)]
 pub enum Fetching {
     Fetched(usize),
     Refused(Refusal),

@@ -15,14 +15,14 @@ use refusals::{Check, Refusal};
 use stretches::{count_ones, none_from};
 
 // A buffer's length, or none where the call takes no such buffer.
-#[derive(Drop)]
+#[derive(Clone, Copy)]
 pub enum Part {
     Unlent,
     Of(usize),
 }
 
 // What a call is lent.
-#[derive(Drop)]
+#[derive(Clone, Copy)]
 pub struct Lent {
     pub block: Part,
     pub marks: Part,

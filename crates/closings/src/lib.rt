@@ -17,7 +17,7 @@ use slices::clear_bytes;
 use tables::walk::Spot;
 
 // Every place from the spot on is passed; so many of them close a cycle, and their bits are set.
-#[derive(Drop)]
+#[derive(Clone, Copy)]
 struct Walk {
     spot: Spot,
     count: usize,

@@ -6,7 +6,7 @@ ghost use Rattle.std.specs.Prelude.{◌≡◌, ◌<◌};
 ghost use Rattle.commands.specs.Commands.{size_of, one, two, command_of, parsed};
 
 // 01, "The job and its sheet": the commands 01 to 0C (hex) with their operands; document 02 adds 0D.
-#[derive(Drop)]
+#[derive(Clone, Copy)]
 pub enum Command {
     NewPlan { n: u8, t: u16 },
     SetShift { j: u8, p: u16 },
@@ -24,7 +24,7 @@ pub enum Command {
 }
 
 // What stands at the front of some bytes.
-#[derive(Drop)]
+#[derive(Clone, Copy)]
 pub enum Parsed {
     Whole(Command),
     Unknown,

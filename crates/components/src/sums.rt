@@ -9,7 +9,7 @@ use slices::{clear_bytes, clear_words};
 use tables::lists::{put_row, row_at};
 
 // The answer of crossed: every component sums to 0, or so many rows of the first that does not are written.
-#[derive(Drop)]
+#[derive(Clone, Copy)]
 pub enum Rows {
     Balanced,
     Crossed(usize),

@@ -17,14 +17,14 @@ use tables::rows::{bottom, top};
 use tables::walk::Spot;
 
 // The highest place that closes a cycle of marked places, with the section and the offset that the walk had there.
-#[derive(Drop)]
+#[derive(Clone, Copy)]
 pub enum Closing {
     At(Spot),
     None,
 }
 
 // Every place from the spot on is passed; its own closes a cycle or not.
-#[derive(Drop)]
+#[derive(Clone, Copy)]
 struct Walk {
     spot: Spot,
     closes: bool,

@@ -14,7 +14,7 @@ const INPUT: usize = 65536;
 const SHEET: usize = 65536;
 
 // What follows, and whether anything does.
-#[derive(Drop)]
+#[derive(Clone, Copy)]
 struct Next {
     stream: Stream,
     more: bool,

@@ -12,7 +12,7 @@ use act::{Held, plans, symbols};
 use commands::Command;
 
 // The plan after a command, and the length of its text; 0 where it writes none.
-#[derive(Drop)]
+#[derive(Clone, Copy)]
 pub struct Done {
     pub held: Held,
     pub count: usize,

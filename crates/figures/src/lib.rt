@@ -13,7 +13,7 @@ use refusals::{Check, Refusal};
 mod distance;
 mod parity;
 
-#[derive(Drop)]
+#[derive(Clone, Copy)]
 pub struct Four {
     pub parity: usize,
     pub pair: usize,
@@ -22,7 +22,7 @@ pub struct Four {
 }
 
 // The figures of a plan, or its refusal.
-#[derive(Drop)]
+#[derive(Clone, Copy)]
 pub enum Answer {
     Are(Four),
     Not(Refusal),

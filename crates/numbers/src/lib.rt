@@ -12,7 +12,7 @@ use plan::Plan;
 
 // A constructor's answer by its number, with the plan beside it; a refusal makes none, and the record is all zeros.
 #[repr(C)]
-#[derive(Drop)]
+#[derive(Clone, Copy)]
 pub struct Made {
     pub answer: u8,
     pub plan: Plan,

@@ -14,7 +14,7 @@ use tables::lists::{put_place, row_at};
 use tables::rows::TALLY_UNIT;
 
 // The ends of the queue and of the list of settled places.
-#[derive(Drop)]
+#[derive(Clone, Copy)]
 struct Ends {
     tail: usize,
     count: usize,

@@ -17,7 +17,7 @@ pub mod ties;
 
 // The shifts past the first n influence nothing. C's layout: the C entry points take it by value.
 #[repr(C)]
-#[derive(Drop)]
+#[derive(Clone, Copy)]
 pub struct Plan {
     pub n: usize,
     pub t: usize,
@@ -25,21 +25,21 @@ pub struct Plan {
 }
 
 // 01: a place number and a row number are never used one for the other.
-#[derive(Drop)]
+#[derive(Clone, Copy)]
 pub struct Place(pub u16);
 
-#[derive(Drop)]
+#[derive(Clone, Copy)]
 pub struct Row(pub u16);
 
 // A constructor's answer with the plan beside it; a refusal makes none, and the record is all zeros.
-#[derive(Drop)]
+#[derive(Clone, Copy)]
 pub struct Made {
     pub answer: Check,
     pub plan: Plan,
 }
 
 // A number that was asked for, or the refusal of the call.
-#[derive(Drop)]
+#[derive(Clone, Copy)]
 pub enum Count {
     Is(usize),
     Not(Refusal),

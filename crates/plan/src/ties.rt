@@ -7,35 +7,35 @@ use crate::Plan;
 
 pub fn min_n() -> usize
     ensures value { result ≡ min_n }
-    ensures* result_value { do ⌜ result ≡ (← (⟦Plan::MIN_N⟧).entry) ⌝ }
+    ensures constant { result ≡ Plan.MIN_N }
 {
     Plan::MIN_N
 }
 
 pub fn max_n() -> usize
     ensures value { result ≡ max_n }
-    ensures* result_value { do ⌜ result ≡ (← (⟦Plan::MAX_N⟧).entry) ⌝ }
+    ensures constant { result ≡ Plan.MAX_N }
 {
     Plan::MAX_N
 }
 
 pub fn min_t() -> usize
     ensures value { result ≡ min_t }
-    ensures* result_value { do ⌜ result ≡ (← (⟦Plan::MIN_T⟧).entry) ⌝ }
+    ensures constant { result ≡ Plan.MIN_T }
 {
     Plan::MIN_T
 }
 
 pub fn max_t() -> usize
     ensures value { result ≡ max_t }
-    ensures* result_value { do ⌜ result ≡ (← (⟦Plan::MAX_T⟧).entry) ⌝ }
+    ensures constant { result ≡ Plan.MAX_T }
 {
     Plan::MAX_T
 }
 
 pub fn max_places() -> usize
     ensures value { result ≡ max_places }
-    ensures* result_value { do ⌜ result ≡ (← (⟦Plan::MAX_PLACES⟧).entry) ⌝ }
+    ensures constant { result ≡ Plan.MAX_PLACES }
 {
     Plan::MAX_PLACES
 }

@@ -10,7 +10,7 @@ use slices::copy_bytes;
 use turns::{Step, Turn};
 
 // After a turn: the plan, the place in the job, the length of the sheet so far; phase 0: more may follow, 1: closed, 2: the sheet is full.
-#[derive(Drop)]
+#[derive(Clone, Copy)]
 pub struct Reached {
     pub held: Held,
     pub at: usize,

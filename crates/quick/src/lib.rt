@@ -15,7 +15,7 @@ use state::buffers::put;
 const ENOUGH: usize = 5;
 
 // How far the commands were performed, and how far the sheet is filled.
-#[derive(Drop)]
+#[derive(Clone, Copy)]
 pub struct Passed {
     pub at: usize,
     pub to: usize,

@@ -6,7 +6,7 @@ ghost use Rattle.std.specs.Prelude.{◌≡◌, ◌++◌, ◌-◌, ◌≤◌, min
 ghost use Rattle.reading.specs.Cursors.{hand, at_start, carried_of, reach_of};
 
 // The bytes at hand stand from `at` to `end`; `offset`: where the first of them stands in the job.
-#[derive(Drop)]
+#[derive(Clone, Copy)]
 pub struct Cursor {
     pub at: usize,
     pub end: usize,

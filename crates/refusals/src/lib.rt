@@ -6,7 +6,7 @@ ghost use Rattle.std.specs.Prelude.{◌≡◌};
 ghost use Rattle.refusals.specs.Refusals.{number_of, check_number, rank_of, first_of};
 ghost use Rattle.refusals.specs.Refusals.{earlier as earlierOf};
 
-#[derive(Drop)]
+#[derive(Clone, Copy)]
 pub enum Refusal {
     Size,
     Shift,
@@ -20,7 +20,7 @@ pub enum Refusal {
     Family,
 }
 
-#[derive(Drop)]
+#[derive(Clone, Copy)]
 pub enum Check {
     Pass,
     Stop(Refusal),

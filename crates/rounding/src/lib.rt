@@ -22,7 +22,7 @@ use tables::marks::note_marks;
 use tables::rows::TALLY_UNIT;
 
 // The end of the queue, and the number of erasures left.
-#[derive(Drop)]
+#[derive(Clone, Copy)]
 struct Ends {
     tail: usize,
     left: usize,

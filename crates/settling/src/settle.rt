@@ -8,7 +8,7 @@ use plan::{Place, Row};
 use tables::rows::{TALLY_UNIT, beside};
 
 // A settled place, what is added to its symbol, the row that it met beside the one it was settled by, and the number of erasures left there.
-#[derive(Drop)]
+#[derive(Clone, Copy)]
 pub struct Settled {
     pub place: Place,
     pub value: u8,

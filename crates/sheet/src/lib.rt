@@ -15,7 +15,7 @@ use putting::{Reached, put_turn};
 use turns::start;
 
 // Whole: the sheet's length. Full: the lent sheet is too short; the length of what fitted, each command's text whole.
-#[derive(Drop)]
+#[derive(Clone, Copy)]
 pub enum Ran {
     Whole(usize),
     Full(usize),

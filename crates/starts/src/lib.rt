@@ -16,7 +16,7 @@ use tables::rows::{TALLY_UNIT, bottom, top};
 use tables::walk::{Section, Spot};
 
 // What the walk over the marks has come to: the section, the tail of the queue of top rows, and the number of bottom rows in the list.
-#[derive(Drop)]
+#[derive(Clone, Copy)]
 struct Walked {
     section: Section,
     tail: usize,
@@ -24,7 +24,7 @@ struct Walked {
 }
 
 // The tail of the queue, or that the marks are not scattered.
-#[derive(Drop)]
+#[derive(Clone, Copy)]
 enum Seeds {
     Are(usize),
     Many,

@@ -10,7 +10,7 @@ use reading::Cursor;
 use refusals::Refusal;
 
 // Going: more may follow. Closed: the last line is on the sheet. Past: the job goes on at offset 2^64 - 1. Lost: a read or a write failed.
-#[derive(Drop)]
+#[derive(Clone, Copy)]
 pub enum Phase {
     Going,
     Closed,
@@ -19,7 +19,7 @@ pub enum Phase {
 }
 
 // How far a job has come: its plan, what of the input is at hand, how much of the sheet waits to be written. `last`: the input has ended.
-#[derive(Drop)]
+#[derive(Clone, Copy)]
 pub struct Stream {
     pub held: Held,
     pub cursor: Cursor,
@@ -30,7 +30,7 @@ pub struct Stream {
 
 // What is wanted. Read: more input. Write: that what waits on the sheet is written. Closed: nothing more. Past, Lost: nothing more, and the sheet is incomplete.
 // Bad: what refuses the lent state.
-#[derive(Drop)]
+#[derive(Clone, Copy)]
 pub enum Ask {
     Read,
     Write,
@@ -57,7 +57,7 @@ impl Ask {
 }
 
 // What is wanted, and how far the job has come.
-#[derive(Drop)]
+#[derive(Clone, Copy)]
 pub struct Worked {
     pub ask: Ask,
     pub stream: Stream,

@@ -11,7 +11,7 @@ use quick::{Passed, quick};
 use turns::{Step, Turn};
 
 // How far the commands were performed and the sheet is filled, and the plan then. halt 0: more may follow; 1: more bytes are wanted; 2: room on the sheet is; 3: the job is closed.
-#[derive(Drop)]
+#[derive(Clone, Copy)]
 pub struct Reached {
     pub held: Held,
     pub at: usize,

@@ -83,7 +83,7 @@ fn ones_of(x: u8) -> usize
 }
 
 // How a stretch lies in the bytes: so many places in the byte where it begins, then whole bytes from byte `next` on, then so many places of the byte after these.
-#[derive(Drop)]
+#[derive(Clone, Copy)]
 struct Cut {
     first: usize,
     next: usize,

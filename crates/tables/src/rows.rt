@@ -49,7 +49,7 @@ pub(crate) fn put_in(tally: &mut [u16], r: Row, w: u16)
 
 // The place of a section on a row: its offset, and the row that it meets beside that one. Rows are numbers of machine width here: a turn of peeling waits for
 // the row before it, and narrowing that row makes it wait longer.
-#[derive(Drop)]
+#[derive(Clone, Copy)]
 pub struct Met {
     pub offset: usize,
     pub other: usize,

@@ -6,7 +6,7 @@ ghost use Rattle.tables.specs.Stretches.{Stretch};
 
 use plan::Place;
 
-#[derive(Drop)]
+#[derive(Clone, Copy)]
 pub struct Spot {
     pub place: Place,
     pub section: usize,
@@ -14,7 +14,7 @@ pub struct Spot {
 }
 
 // A section: its number, its first place, the place after its last, and its shift.
-#[derive(Drop)]
+#[derive(Clone, Copy)]
 pub struct Section {
     pub index: usize,
     pub begin: usize,

@@ -15,7 +15,7 @@ use plan::Plan;
 use refusals::Refusal;
 
 // What comes of the bytes at hand. On: the bytes used and the length of the text. End, Stop: the length of the last line. Bad: what refuses the lent state.
-#[derive(Drop)]
+#[derive(Clone, Copy)]
 pub enum Turn {
     Wait,
     End(usize),
@@ -40,7 +40,7 @@ impl Turn {
 }
 
 // A turn, and the plan after it.
-#[derive(Drop)]
+#[derive(Clone, Copy)]
 pub struct Step {
     pub turn: Turn,
     pub held: Held,

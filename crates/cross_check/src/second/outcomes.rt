@@ -6,7 +6,7 @@ use crate::second::rows::{places, rows};
 use plan::Plan;
 
 // The number of 01 and the count of the list; of a loose block the list is left to the other implementation.
-#[derive(Drop)]
+#[derive(Clone, Copy)]
 pub(crate) struct Outcome {
     pub(crate) number: usize,
     pub(crate) count: usize,

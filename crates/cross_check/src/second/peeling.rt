@@ -6,7 +6,7 @@ use crate::second::rows::{place_on, rows};
 use plan::Plan;
 
 // What a row shows: the number of its erased places, the last of them, and the sum of its other symbols.
-#[derive(Drop)]
+#[derive(Clone, Copy)]
 pub(crate) struct View {
     pub(crate) erased: usize,
     pub(crate) last: usize,

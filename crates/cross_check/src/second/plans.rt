@@ -4,7 +4,7 @@ use crate::second::refusing::{of_plan, of_size};
 use crate::second::rows::shift;
 use plan::Plan;
 
-#[derive(Drop)]
+#[derive(Clone, Copy)]
 pub(crate) struct Making {
     pub(crate) number: usize,
     pub(crate) plan: Plan,

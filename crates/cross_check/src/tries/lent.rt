@@ -11,7 +11,7 @@ use answers::Recovery;
 use plan::{Count, Plan};
 
 // How much of each buffer is lent.
-#[derive(Drop)]
+#[derive(Clone, Copy)]
 pub(crate) struct Lens {
     pub(crate) block: usize,
     pub(crate) marks: usize,

@@ -161,7 +161,7 @@ fn many(kind: usize, most_n: usize, most_t: usize, cases: u64, tally: &mut Tally
 }
 
 // Cases of one kind: of plans of at most so many sections and symbols, and how many there are.
-#[derive(Drop)]
+#[derive(Clone, Copy)]
 struct Cases {
     kind: usize,
     most_n: usize,

@@ -1,0 +1,11 @@
+-- `put_word` meets its contract. The invariant: the first i bytes of the word are put. Assumes nothing.
+use Prim.Native.Nat.{◌+◌, ◌-◌, ◌≤◌}
+use lib.ListN.{length, take}
+use Rattle.pieces.specs.Pieces.{Appends}
+use Rattle.pieces.proofs.put_word.Given as goal
+
+abbrev pub invariant-loop-i : goal.invariant-loop-i
+invariant-loop-i l = (l.i ≤ length l.word) × Appends l.initial.line l.at (take l.i l.word) l.line (l.at + l.i)
+
+abbrev pub decreases-loop-i : goal.decreases-loop-i
+decreases-loop-i l = length l.word - l.i
