@@ -18,7 +18,8 @@ use Rattle.code.proofs.Laws.Labels.{dec_connected}
 use Rattle.code.proofs.Laws.Balance
 use Rattle.code.proofs.Laws.Carrying
 use Rattle.code.proofs.Laws.ClosedForm
-use Rattle.code.specs.Laws.Closings
+use Rattle.code.specs.Laws.Closings.{closings}
+use Rattle.code.proofs.Laws.Closings
 use Rattle.code.proofs.Laws.CycleLaws
 use Rattle.code.proofs.Laws.Distance
 use Rattle.code.proofs.Laws.Fetched
@@ -171,7 +172,7 @@ module _ (L : Layout) (ok : Valid L) where
 
   -- the fetch list (document 02, N2): all erasures have one
   pub fetch_list_some : (E : List ℕ) → Erased L E → (F : List ℕ) × FetchList L E F
-  fetch_list_some E er = (Closings.closings L E, Closings.closings_fetch L ok er)
+  fetch_list_some E er = (closings L E, Closings.closings_fetch L ok er)
 
   -- with no erasures but those that it leaves, at most one codeword agrees
   pub fetched_never : {E F K : List ℕ} (v : List ℕ) → FetchList L E F → Erased L K → ((c : ℕ) → c ∈ K → (c ∈ E) × ¬ (c ∈ F)) → ¬ (TwoOrMore (Agrees L K v))

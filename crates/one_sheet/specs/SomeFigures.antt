@@ -2,7 +2,8 @@
 -- Main results: find, least_of, figures_some.
 use Rattle.std.specs.Prelude.{◌≡◌, refl, ◌⊎◌, [], ◌∷◌, ℕ, zero, suc, ◌+◌, ◌-◌, ◌%◌, ◌≤◌, ◌<◌, length}
 use Rattle.std.proofs.Common.{sym, ◌∙◌, subst, inl, inr, ⊎_elim, arith}
-use Rattle.std.proofs.Math.Logic.{by_cases, Dec·and, Dec·not, Dec·of-iff}
+use Rattle.std.proofs.Math.Logic.{by_cases}
+use mathlib.Core.Logic.Dec
 use Rattle.std.proofs.Math.Decide.{ℕ_discrete, dec_lt, dec_le}
 use Rattle.refusals.specs.declared.Check.TheVariants.{Pass}
 use Rattle.math.specs.Members.{up_to, from}
@@ -53,7 +54,7 @@ pair_dec L i j =
 -- the last of three or more sections, and the first
 around_dec : (n i j : ℕ) → Dec ((3 ≤ n) × (i + 1 ≡ n) × (j ≡ 0))
 around_dec n i j =
-    Dec·of-iff (λ x. (x.0, x.1.0, x.1.1), λ x. (x.0, (x.1, x.2))) (Dec·and (dec_le 3 n) (Dec·and (ℕ_discrete (i + 1) n) (ℕ_discrete j 0)))
+    Dec.of_iff (λ x. (x.0, x.1.0, x.1.1), λ x. (x.0, (x.1, x.2))) (Dec.and (dec_le 3 n) (Dec.and (ℕ_discrete (i + 1) n) (ℕ_discrete j 0)))
 
 neighbours_dec : (L : Layout) (i j : ℕ) → Dec (Neighbours L i j)
 neighbours_dec L i j =
@@ -72,14 +73,14 @@ module _ (L : Layout) (ok : Valid L) where
   capability_dec : (R : ℕ → ℕ → Type 0) → ((i j : ℕ) → Dec (R i j)) → ((i j : ℕ) → R i j → (i < L.n) × (j < L.n)) → (x : ℕ) → Dec (Capability L R x)
   capability_dec R d below x =
       by_cases (find (λ i. (j : ℕ) × (j < L.n) × (R i j × (x ≡ pair_number L i j - 1)))
-      (λ i. find (λ j. R i j × (x ≡ pair_number L i j - 1)) (λ j. Dec·and (d i j) (ℕ_discrete x (pair_number L i j - 1))) L.n) L.n)
+      (λ i. find (λ j. R i j × (x ≡ pair_number L i j - 1)) (λ j. Dec.and (d i j) (ℕ_discrete x (pair_number L i j - 1))) L.n) L.n)
       (λ w. yes (record { i = w.0; j = w.2.0; related = w.2.2.0; value = w.2.2.1 }))
       (λ n. no (λ c. let b = below c.i c.j c.related in n (c.i, b.0, (c.j, b.1, (c.related, c.value)))))
 
   equal_dec : Dec (EqualShifts L)
   equal_dec =
       by_cases (find (λ i. (j : ℕ) × (j < L.n) × (Pair L i j × (L.shift i ≡ L.shift j)))
-      (λ i. find (λ j. Pair L i j × (L.shift i ≡ L.shift j)) (λ j. Dec·and (pair_dec L i j) (ℕ_discrete (L.shift i) (L.shift j))) L.n) L.n)
+      (λ i. find (λ j. Pair L i j × (L.shift i ≡ L.shift j)) (λ j. Dec.and (pair_dec L i j) (ℕ_discrete (L.shift i) (L.shift j))) L.n) L.n)
       (λ w. yes (record { i = w.0; j = w.2.0; pair = w.2.2.0; equal = w.2.2.1 }))
       (λ n. no (λ e. let b = pair_below e.pair in n (e.i, b.0, (e.j, b.1, (e.pair, e.equal)))))
 
@@ -91,8 +92,8 @@ module _ (L : Layout) (ok : Valid L) where
   clash_dec : (i j k l : ℕ) → Dec (Clash i j k l)
   unfolding Clash
   clash_dec i j k l =
-      Dec·and (pair_dec L i j) (Dec·and (pair_dec L k l)
-      (Dec·and (ℕ_discrete ((L.shift i + L.t - L.shift j) % L.t) ((L.shift k + L.t - L.shift l) % L.t)) (Dec·not (Dec·and (ℕ_discrete i k) (ℕ_discrete j l)))))
+      Dec.and (pair_dec L i j) (Dec.and (pair_dec L k l)
+      (Dec.and (ℕ_discrete ((L.shift i + L.t - L.shift j) % L.t) ((L.shift k + L.t - L.shift l) % L.t)) (Dec.not (Dec.and (ℕ_discrete i k) (ℕ_discrete j l)))))
 
   clashes : Dec ((i : ℕ) × (i < L.n) × ((j : ℕ) × (j < L.n) × ((k : ℕ) × (k < L.n) × ((l : ℕ) × (l < L.n) × Clash i j k l))))
   clashes =
@@ -108,7 +109,7 @@ module _ (L : Layout) (ok : Valid L) where
       (λ w. let c = w.2.2.2.2 in no (λ r. c.1.1.1 (r.rule w.0 w.2.0 w.2.2.0 w.2.2.2.0 c.0 c.1.0 c.1.1.0)))
       (λ none. yes (record {
         rule = λ i j k l p q e.
-            by_cases (Dec·and (ℕ_discrete i k) (ℕ_discrete j l))
+            by_cases (Dec.and (ℕ_discrete i k) (ℕ_discrete j l))
             (λ r. r)
             (λ n. let a = pair_below p in
             let b = pair_below q in

@@ -196,7 +196,7 @@ module _ {n t : ℕ} {shifts : List ℕ} (s : GoodPlan n t shifts) (v : List ℕ
         c (∈_good s (omega (arith, filled_long v place value k))) (λ q. Memᴰ.not-nil (subst (λ F. c ∈ F) none_left q))));
   }
 
-map_at : (f g : ℕ → ℕ) {l : List ℕ} {c : ℕ} → map f l ≡ map g l → c ∈ l → f c ≡ g c
+map_at : (f g : ℕ → ℕ) {c : ℕ} {l : List ℕ} → map f l ≡ map g l → c ∈ l → f c ≡ g c
 map_at f g e (first q) = ap f q ∙ ap (λ l. get_or l 0 0) e ∙ sym (ap g q)
 map_at f g e (later m) = map_at f g (ap (λ l. drop 1 l) e) m
 

@@ -3,7 +3,8 @@
 use Rattle.std.specs.Prelude.{◌≡◌, refl, ◌≢◌, ◌⊎◌, List, [], ◌∷◌, length}
 use Rattle.std.proofs.Math.Path.{sym, ap}
 use Rattle.std.proofs.Common.{◌∙◌, inl, inr, ⊎_elim, mod-eq_of_lt, arith, eq-eqb, ne_eqb, eqb-true}
-use Rattle.std.proofs.Math.Logic.{by_cases, Dec·not}
+use Rattle.std.proofs.Math.Logic.{by_cases}
+use mathlib.Core.Logic.Dec
 use mathlib.Core.List.Memᴰ.{head}
 use mathlib.Core.List.Memᴰ.{tail}
 use Prim.Native.Nat.{ℕ, ◌*◌, ◌%◌, ◌<◌, min}
@@ -219,7 +220,7 @@ module _ (L : Layout) (ok : Valid L) where
   -- a lowest component that does not add up to 0, or all do
   pub inconsistent_or_balanced : (E : List ℕ) (v : ℕ → ℕ) →
       ((l : List ℕ) × Inconsistent L E v l) ⊎ ((l : List ℕ) → Component L E l → imbalance L E v l ≡ 0)
-  inconsistent_or_balanced E v = elim (first_in (λ r. Dec·not (ℕ_discrete (imbalance L E v (component_of L E r)) 0)) (rising_rows L)) [
+  inconsistent_or_balanced E v = elim (first_in (λ r. Dec.not (ℕ_discrete (imbalance L E v (component_of L E r)) 0)) (rising_rows L)) [
     | inl t ↦ inl (
       component_of L E t.0,
       record {

@@ -30,7 +30,7 @@ map_same : (f g : ℕ → ℕ) (l : List ℕ) → ((c : ℕ) → c ∈ l → f c
 map_same f g [] h = refl
 map_same f g (c ∷ cs) h = ap₂ ◌∷◌ (h c (first refl)) (map_same f g cs (λ d m. h d (later m)))
 
-map_at : (f g : ℕ → ℕ) {l : List ℕ} {c : ℕ} → map f l ≡ map g l → c ∈ l → f c ≡ g c
+map_at : (f g : ℕ → ℕ) {c : ℕ} {l : List ℕ} → map f l ≡ map g l → c ∈ l → f c ≡ g c
 map_at f g e (first {x = x} q) = ap f q ∙ ap (λ l. get_or l 0 0) e ∙ sym (ap g q)
 map_at f g e (later m) = map_at f g (ap (λ l. drop 1 l) e) m
 

@@ -3,7 +3,8 @@
 use Rattle.std.specs.Prelude.{◌≡◌, refl, ◌≢◌, ◌↔◌, not, List, [], ◌∷◌, ℕ, ◌+◌, ◌-◌, ◌*◌, ◌/◌, ◌%◌, ◌≤◌, ◌<◌, eqb, length}
 use Rattle.std.proofs.Math.Path.{sym, ap}
 use Rattle.std.proofs.Common.{◌∙◌, subst, inl, inr, mod-lt, add_comm, le_of_lt, arith, eq-eqb, ne_eqb}
-use Rattle.std.proofs.Math.Logic.{by_cases, Dec·not, Dec·and}
+use Rattle.std.proofs.Math.Logic.{by_cases}
+use mathlib.Core.Logic.Dec
 use mathlib.Core.List.Memᴰ
 use mathlib.Core.List.Memᴰ.{head as here}
 use mathlib.Core.List.Memᴰ.{tail as there}
@@ -431,7 +432,7 @@ module _ (L : Layout) (ok : Valid L) where
       (λ i. dec_some (λ j. (k : ℕ) × (k ∈ S) × ((l : ℕ) × (l ∈ S) × Clash i j k l))
       (λ j. dec_some (λ k. (l : ℕ) × (l ∈ S) × Clash i j k l)
       (λ k. dec_some (λ l. Clash i j k l)
-      (λ l. Dec·and (Dec·not (ℕ_discrete i j)) (Dec·and (Dec·not (ℕ_discrete k l)) (Dec·and (Dec·not (ℕ_discrete i k))
+      (λ l. Dec.and (Dec.not (ℕ_discrete i j)) (Dec.and (Dec.not (ℕ_discrete k l)) (Dec.and (Dec.not (ℕ_discrete i k))
       (ℕ_discrete ((L.shift i + L.t - L.shift j) % L.t) ((L.shift k + L.t - L.shift l) % L.t))))) S) S) S) S
 
   -- where no difference comes twice the ruler rule holds

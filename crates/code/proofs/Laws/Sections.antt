@@ -41,7 +41,7 @@ length_places_from t f [] = refl
 length_places_from t f (j ∷ js) = simp (length-append, length-map, length_from, length_places_from t f js)
 
 module _ (t : ℕ) (pos : 0 < t) (f : ℕ → ℕ) where
-  pub ∈_places_from : {js : List ℕ} {j k : ℕ} → j ∈ js → f j ≤ k → k < t → place_of t j k ∈ places_from t f js
+  pub ∈_places_from : {j k : ℕ} {js : List ℕ} → j ∈ js → f j ≤ k → k < t → place_of t j k ∈ places_from t f js
   unfolding places_from
   ∈_places_from {j} (first {x = i} {xs = is} e) h l =
       rw (← e) (Memᴰ.append_left (places_from t f is) (mem_map (place_of t j) (∈_from (f j) (t - f j) h (omega arith))))
