@@ -1,5 +1,5 @@
-/* The rival of the desk: a job on standard input, its sheet on standard output (document 01, "The job and its sheet"; 0D and rounds by 02), written by hand
-   in C. One loop and a switch; recovery and sealing are the rival's. Same sheets as crates/desk, to the byte. */
+/* The rival of the desk: a job on standard input, its sheet on standard output (document 01, "The job and its sheet"; 0D by 02), written by hand in C.
+   One loop and a switch; recovery and sealing are the rival's. Same sheets as crates/desk, to the byte. */
 #include "rival.h"
 #include <stdbool.h>
 #include <stdlib.h>
@@ -158,13 +158,23 @@ static ALONE uint8_t ruler(size_t n) {
 
 /* ---- commands with a line ---- */
 
+static size_t marked(void) {
+    size_t count = 0;
+    for (size_t i = 0; i < (places + 7) / 8; i += 8) {
+        uint64_t word;
+        memcpy(&word, marks + i, 8);
+        if (word != 0) count += (size_t)__builtin_popcountll(word);
+    }
+    return count;
+}
+
 static ALONE char *recover(char *out) {
-    size_t count, rounds;
-    uint8_t answer = rival_recover_rounds(&plan, block, places, marks, (places + 7) / 8, witness, 2 * plan.t, &count, &rounds);
+    size_t count;
+    uint8_t answer = rival_recover(&plan, block, places, marks, (places + 7) / 8, witness, 2 * plan.t, &count);
     if (answer == 0) {
+        out = put_small(PUT(out, "recovered"), (uint32_t)marked());
         memset(marks, 0, (places + 7) / 8);
-        out = finish(put_small(PUT(out, "recovered"), (uint32_t)count));
-        return finish(put_small(PUT(out, "rounds"), (uint32_t)rounds));
+        return finish(out);
     }
     out = answer == CROSSED ? PUT(out, "crossed") : PUT(out, "loose");
     out = put_small(out, (uint32_t)count);

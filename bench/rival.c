@@ -9,9 +9,6 @@
 enum { SIZE = 1, SHIFT, LENGTH, SPARE, CROSSED, LOOSE };
 enum { MAX_ROWS = 4096 };
 
-/* Put into each function that calls it, with what is constant there. */
-#define INTO inline __attribute__((always_inline))
-
 typedef struct {
     uint8_t sum[MAX_ROWS];
     uint8_t left[MAX_ROWS + 8]; /* at most n; zeros past the last row, so that eight can be looked at in one word */
@@ -98,20 +95,13 @@ static inline size_t note_marks(const fumizhaki_plan *plan, const uint8_t *restr
 }
 
 /* Settles places as long as some row has one erasure left; lists them with their values and gives their number. In long chains the next row nearly
-   always enters the queue, and a branch lets the processor run ahead; in scattered erasures it would be guessed wrong, and the tail is better computed.
-   The rows that stand in the queue when a round starts are the round; where rounds are not asked for (NULL) nothing is left of their count. */
-static INTO size_t drain(const fumizhaki_plan *plan, tables *restrict rows, uint16_t *restrict queue, size_t tail, uint16_t *restrict place,
-                         uint8_t *restrict value, bool chains, size_t *rounds) {
-    size_t t = plan->t, count = 0, round = 0, end = 0;
-    if (rounds) *rounds = 0;
+   always enters the queue, and a branch lets the processor run ahead; in scattered erasures it would be guessed wrong, and the tail is better computed. */
+static inline size_t drain(const fumizhaki_plan *plan, tables *restrict rows, uint16_t *restrict queue, size_t tail, uint16_t *restrict place,
+                           uint8_t *restrict value, bool chains) {
+    size_t t = plan->t, count = 0;
     for (size_t head = 0; head < tail; head++) {
         size_t r = queue[head];
-        if (rounds && head == end) {
-            round++;
-            end = tail;
-        }
         if (rows->left[r] != 1) continue;
-        if (rounds) *rounds = round; /* the last round may be one of rows that have none left */
         uint16_t code = rows->code[r];
         uint8_t x = rows->sum[r];
         size_t j = code >> 11, k = code & 2047;
@@ -132,7 +122,7 @@ static INTO size_t drain(const fumizhaki_plan *plan, tables *restrict rows, uint
     return count;
 }
 
-static INTO size_t peel_by(const fumizhaki_plan *plan, tables *restrict rows, uint16_t *restrict place, uint8_t *restrict value, size_t *rounds) {
+static size_t peel(const fumizhaki_plan *plan, tables *restrict rows, uint16_t *restrict place, uint8_t *restrict value) {
     uint16_t queue[MAX_ROWS + 1];
     size_t rows_count = 2 * plan->t, tail = 0;
     for (size_t r = 0; r < rows_count; r += 8) {
@@ -144,11 +134,7 @@ static INTO size_t peel_by(const fumizhaki_plan *plan, tables *restrict rows, ui
             tail += rows->left[s] == 1;
         }
     }
-    return tail < rows_count / 16 ? drain(plan, rows, queue, tail, place, value, true, rounds) : drain(plan, rows, queue, tail, place, value, false, rounds);
-}
-
-static size_t peel(const fumizhaki_plan *plan, tables *restrict rows, uint16_t *restrict place, uint8_t *restrict value) {
-    return peel_by(plan, rows, place, value, NULL);
+    return tail < rows_count / 16 ? drain(plan, rows, queue, tail, place, value, true) : drain(plan, rows, queue, tail, place, value, false);
 }
 
 static bool all_zero(const uint8_t *bytes, size_t length) {
@@ -230,8 +216,8 @@ static size_t cycle(const fumizhaki_plan *plan, const uint8_t *marks, size_t c, 
     return count;
 }
 
-static INTO uint8_t recover_by(const fumizhaki_plan *plan, uint8_t *block, size_t block_length, const uint8_t *marks, size_t marks_length,
-                               uint16_t *witness, size_t witness_length, size_t *count, size_t *rounds) {
+uint8_t rival_recover(const fumizhaki_plan *plan, uint8_t *block, size_t block_length, const uint8_t *marks, size_t marks_length,
+                      uint16_t *witness, size_t witness_length, size_t *count) {
     tables rows;
     uint16_t place[MAX_ROWS + 1];
     uint8_t value[MAX_ROWS + 1];
@@ -243,11 +229,10 @@ static INTO uint8_t recover_by(const fumizhaki_plan *plan, uint8_t *block, size_
     if (places % 8 != 0 && marks[places / 8] >> (places % 8) != 0) return SPARE;
     sum_rows(plan, block, rows.sum);
     size_t erased = note_marks(plan, marks, 0, &rows);
-    size_t settled = rounds ? peel_by(plan, &rows, place, value, rounds) : peel(plan, &rows, place, value);
+    size_t settled = peel(plan, &rows, place, value);
     if (settled == erased && all_zero(rows.sum, 2 * t)) {
         fill(block, place, value, settled);
         memset(witness, 0, 2 * t * sizeof witness[0]);
-        if (rounds) *count = settled;
         return 0;
     }
     /* Peeling leaves the sum of each component as it was, so the sums after it serve as well. */
@@ -258,19 +243,6 @@ static INTO uint8_t recover_by(const fumizhaki_plan *plan, uint8_t *block, size_
     *count = cycle(plan, marks, (size_t)closing, &rows, place, value, witness);
     return LOOSE;
 }
-
-/* One of the two: with both here what only one calls would no longer be put into it, and the rival of the library would be another program. */
-#ifndef ROUNDS
-uint8_t rival_recover(const fumizhaki_plan *plan, uint8_t *block, size_t block_length, const uint8_t *marks, size_t marks_length,
-                      uint16_t *witness, size_t witness_length, size_t *count) {
-    return recover_by(plan, block, block_length, marks, marks_length, witness, witness_length, count, NULL);
-}
-#else
-uint8_t rival_recover_rounds(const fumizhaki_plan *plan, uint8_t *block, size_t block_length, const uint8_t *marks, size_t marks_length,
-                             uint16_t *witness, size_t witness_length, size_t *count, size_t *rounds) {
-    return recover_by(plan, block, block_length, marks, marks_length, witness, witness_length, count, rounds);
-}
-#endif
 
 /* The number of message places of each section, its first ones; gives their total. */
 static size_t find_runs(const fumizhaki_plan *plan, uint16_t *run) {

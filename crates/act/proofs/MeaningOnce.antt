@@ -24,7 +24,7 @@ use Rattle.state.specs.State.{State, fresh, with_plan, with_block}
 use Rattle.state.specs.Refusing.{refusal_of}
 use Rattle.bits.specs.MarkedOnce.{marked_once}
 use Rattle.act.specs.Meaning.{Means, Recovering, Sealing, Figuring, Listing, Marking}
-use Rattle.act.proofs.RecoveringLaws.{Took, recovery_text, recovery_state, recovering_is, text_once}
+use Rattle.act.proofs.RecoveringLaws.{recovery_line, recovery_state, recovering_is}
 use Rattle.act.proofs.StateLaws.{place_inside, mark_inside, run_inside, shift_inside, recover_planned, seal_planned}
 use Rattle.act.proofs.ActLaws.{blank_makes, straight_makes, powers_makes, ruler_makes}
 
@@ -49,7 +49,7 @@ recovering_stands : {s s' : State} {text : List ℕ} → Standing s → s.planne
 recovering_stands {s} {s'} k planned r = go r.answer refl
   where
     go : (a : Recovery) → r.answer ≡ a → Standing s'
-    go recovery.Recovered e = block_stands _ _ k planned (r.recovered e).3
+    go recovery.Recovered e = block_stands _ _ k planned (r.recovered e).1
     go (recovery.Loose z) e = same_stands k (r.loose z e).1
     go (recovery.Crossed z) e = same_stands k (r.crossed z e).1
     go (recovery.Refused x) e = absurd (r.decides.not_refused x e)
@@ -104,14 +104,13 @@ sealing_once {s} {a} {b} {x} {y} good p q =
       p.says ∙ ap (λ l. line sealed_word (length l ∷ [])) e ∙ sym q.says,
     )
 
--- recovery decides one way, shows one list and takes one number of rounds
+-- recovery decides one way, and shows one list
 recovering_once : {s a b : State} {x y : List ℕ} → plan_check s.plan ≡ Pass → Recovering s a x → Recovering s b y → (a ≡ b) × (x ≡ y)
 recovering_once {s} {a} {b} {x} {y} good p q =
     let o = decides_once (good_valid s.plan good) (erasures_erased (layout_of s.plan) s.marks) p.decides q.decides in
     let f = recovering_is p in
     let g = recovering_is q in
-    let took : Took s q.answer f.0 = subst (λ (r : Recovery). Took s r f.0) o.0 f.1 in
-    (f.3 ∙ ap₂ (recovery_state s) o.0 o.1 ∙ sym g.3, f.2 ∙ ap₂ (recovery_text s f.0) o.0 o.2 ∙ text_once q.answer q.list took g.1 ∙ sym g.2)
+    (f.1 ∙ ap₂ (recovery_state s) o.0 o.1 ∙ sym g.1, f.0 ∙ ap₂ (recovery_line s) o.0 o.2 ∙ sym g.0)
 
 -- a command that is not refused leaves one state and writes one text
 pub means_once : {s a b : State} {x y : List ℕ} → Standing s → (c : Command) → refusal_of s c ≡ Pass → Means c s a x → Means c s b y → (a ≡ b) × (x ≡ y)

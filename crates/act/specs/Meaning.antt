@@ -1,31 +1,28 @@
--- What each command means on a state and writes (01, "The job and its sheet"; document 02 for 0D and for the line `rounds`).
-use Rattle.std.specs.Prelude.{◌≡◌, List, [], ◌∷◌, ◌++◌, map, ℕ, length, set, take, replicate}
+-- What each command means on a state and writes (01, "The job and its sheet"; document 02 for 0D).
+use Rattle.std.specs.Prelude.{◌≡◌, List, [], ◌∷◌, map, ℕ, length, set, take, replicate}
 use Rattle.plan.specs.Plans.{with_shift, layout_of, blank_of, straight_of, powers_of, ruler_of}
 use Rattle.code.specs.Codewords.{at}
 use Rattle.code.specs.Marks.{mark_bytes, erasures}
 use Rattle.code.specs.Messages.{Message, Lists, Carries}
 use Rattle.code.specs.FetchList.{FetchList}
 use Rattle.code.specs.Figures as code
-use Rattle.code.specs.Rounds.{Rounds}
 use Rattle.promises.specs.Promises.{Decides}
 use Rattle.answers.specs.declared.Recovery.{Recovery}
 use Rattle.answers.specs.declared.Recovery.TheVariants as recovery
-use Rattle.lines.specs.Lines.{line, recovered_word, rounds_word, loose_word, crossed_word, sealed_word, symbol_word, figures_word, fetch_word}
+use Rattle.lines.specs.Lines.{line, recovered_word, loose_word, crossed_word, sealed_word, symbol_word, figures_word, fetch_word}
 use Rattle.commands.specs.declared.Command.{Command}
 use Rattle.commands.specs.declared.Command.TheVariants.{NewPlan, SetShift, SetSymbol, MarkOne, MarkRun, Recover, Seal, Show, Figures, Straight, Powers, Ruler, Fetch}
 use Rattle.state.specs.State.{State, fresh, with_plan, with_block}
 use Rattle.bits.specs.Bits.{Marked}
 
--- what recovery writes and leaves: "`recovered` and the count of marks; `loose` or `crossed`, count, list"; "success clears the marks".
--- Document 02, N5: "After `recovered`, print `rounds` and the number of rounds after which no mark is left"; "Loose and crossed blocks print no such line"
+-- what recovery writes and leaves: "`recovered` and the count of marks; `loose` or `crossed`, count, list"; "success clears the marks"
 pub record Recovering (s s' : State) (text : List ℕ) : Type 0 where
   pub answer : Recovery
   pub block : List ℕ
   pub list : List ℕ
   pub decides : Decides (layout_of s.plan) (erasures (layout_of s.plan) s.marks) s.block answer block list
   pub recovered : answer ≡ recovery.Recovered →
-      (k : ℕ) × Rounds (layout_of s.plan) (erasures (layout_of s.plan) s.marks) k
-      × (text ≡ line recovered_word (length (erasures (layout_of s.plan) s.marks) ∷ []) ++ line rounds_word (k ∷ []))
+      (text ≡ line recovered_word (length (erasures (layout_of s.plan) s.marks) ∷ []))
       × (s' ≡ with_block s block (replicate (mark_bytes (layout_of s.plan)) 0))
   pub loose : (z : ℕ) → answer ≡ recovery.Loose z → (text ≡ line loose_word (z ∷ take z list)) × (s' ≡ s)
   pub crossed : (z : ℕ) → answer ≡ recovery.Crossed z → (text ≡ line crossed_word (z ∷ take z list)) × (s' ≡ s)

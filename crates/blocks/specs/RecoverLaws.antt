@@ -1,6 +1,6 @@
 -- What counting and recovering say on buffers of the plan's lengths: their calls pass.
--- Main results: zeros_long, marked_is; loose_within, crossed_within, recovered_forest; on_recovered, on_loose, on_crossed; by_success, by_loose, by_crossed.
-use Rattle.std.specs.Prelude.{◌≡◌, List, [], ◌∷◌, ◌++◌, ℕ, ◌-◌, ◌*◌, ◌≤◌, take}
+-- Main results: zeros_long, marked_is; loose_within, crossed_within; on_recovered, on_loose, on_crossed; by_success, by_loose, by_crossed.
+use Rattle.std.specs.Prelude.{◌≡◌, List, [], ◌∷◌, ℕ, ◌-◌, ◌*◌, ◌≤◌, take}
 use Rattle.std.proofs.Math.Path.{refl, ap}
 use Rattle.std.proofs.Common.{sym, ◌∙◌, length-take-le}
 use native.Mathlib.Omega.{arith}
@@ -10,26 +10,23 @@ use Rattle.math.specs.Padded.{padded}
 use Rattle.plan.specs.Layout.{layout}
 use Rattle.bounds.specs.Bounds.{max_t}
 use Rattle.plan.specs.Plans.{layout_of, plan_check, count_of, count_value}
-use Rattle.plan.proofs.PlanLaws.{good_bounds, good_valid}
+use Rattle.plan.proofs.PlanLaws.{good_bounds}
 use Rattle.plan.specs.declared.Plan.{Plan}
 use Rattle.code.specs.Marks.{mark_bytes, NoSpare, erasures}
-use Rattle.code.specs.Rounds.{Rounds}
-use Rattle.code.specs.Laws.Forest.{Forest}
-use Rattle.code.proofs.Laws.MarksLaws.{erasures_erased}
 use Rattle.calls.specs.Calls.{counted_of}
 use Rattle.refusals.specs.declared.Check.{Check}
 use Rattle.refusals.specs.declared.Check.TheVariants.{Pass}
 use Rattle.promises.specs.Promises.{Decides, Recovers}
-use Rattle.promises.proofs.Building.{count_passes, recover_passes, decided_forest}
+use Rattle.promises.proofs.Building.{count_passes, recover_passes}
 use Rattle.answers.specs.Answers.{recovery_number, recovery_count}
 use Rattle.refusals.specs.Refusals.{number_of}
 use Rattle.refusals.specs.declared.Refusal.TheVariants as refusal
 use Rattle.answers.specs.declared.Recovery.{Recovery}
 use Rattle.answers.specs.declared.Recovery.TheVariants as recovery
-use Rattle.lines.specs.Lines.{line, recovered_word, rounds_word, loose_word, crossed_word}
+use Rattle.lines.specs.Lines.{line, recovered_word, loose_word, crossed_word}
 use Rattle.state.specs.State.{with_block}
 use Rattle.bits.specs.MarkedLaws.{no_marks_no_spare}
-use Rattle.act.proofs.RecoveringLaws.{recovering_by, loose_took, crossed_took}
+use Rattle.act.proofs.RecoveringLaws.{recovering_by}
 use Rattle.blocks.specs.Wholes.{Whole, Recovered, whole}
 
 -- the front part of an array of zeros, lent as the witness
@@ -71,26 +68,21 @@ module _ (p : Plan) (v m w : List ℕ) (a : Whole p v m) (w-long : length w ≡ 
   pub crossed_within : (z : ℕ) → r ≡ recovery.Crossed z → length w' ≡ length w → (z ≤ length w') × (z ≤ 2 * max_t)
   crossed_within z e long = let s = decided.crossed_shows z e in within z _ s.0 (sym (ap recovery_count e) ∙ s.2) s.3 long
 
-  -- a single codeword agrees: the marks are a forest
-  pub recovered_forest : r ≡ recovery.Recovered → Forest (layout_of p) (erasures (layout_of p) m)
-  recovered_forest e = decided_forest (good_valid p a.good) (erasures_erased (layout_of p) m) decided e
-
   -- each answer with what it has written and left
-  pub on_recovered : {text m' : List ℕ} {count k : ℕ} → r ≡ recovery.Recovered → count ≡ length (erasures (layout_of p) m) →
-      Rounds (layout_of p) (erasures (layout_of p) m) k → m' ≡ replicate (length m) 0 →
-      text ≡ line recovered_word (count ∷ []) ++ line rounds_word (k ∷ []) → Recovered p v m text v' m'
-  on_recovered {k = k} e c rounds f t =
+  pub on_recovered : {text m' : List ℕ} {count : ℕ} → r ≡ recovery.Recovered → count ≡ length (erasures (layout_of p) m) → m' ≡ replicate (length m) 0 →
+      text ≡ line recovered_word (count ∷ []) → Recovered p v m text v' m'
+  on_recovered e c f t =
       record {
-        means = recovering_by k (record { rounds = λ _. rounds }) decided (rw e (t ∙ ap (λ x. line recovered_word (x ∷ []) ++ line rounds_word (k ∷ [])) c))
+        means = recovering_by decided (rw e (t ∙ ap (λ x. line recovered_word (x ∷ [])) c))
             (rw e (unfold with_block in ap (whole p v') (f ∙ ap (λ x. replicate x 0) a.marks_long)));
         spare = rw f (no_marks_no_spare (layout_of p) (length m));
       }
 
   pub on_loose : {text : List ℕ} (z : ℕ) → r ≡ recovery.Loose z → text ≡ line loose_word (z ∷ take z w') → Recovered p v m text v' m
-  on_loose z e t = record { means = recovering_by 0 (rw e loose_took) decided (rw e t) (rw e (ap (λ x. whole p x m) (decided.loose_keeps z e))); spare = a.spare }
+  on_loose z e t = record { means = recovering_by decided (rw e t) (rw e (ap (λ x. whole p x m) (decided.loose_keeps z e))); spare = a.spare }
 
   pub on_crossed : {text : List ℕ} (z : ℕ) → r ≡ recovery.Crossed z → text ≡ line crossed_word (z ∷ take z w') → Recovered p v m text v' m
-  on_crossed z e t = record { means = recovering_by 0 (rw e crossed_took) decided (rw e t) (rw e (ap (λ x. whole p x m) (decided.crossed_keeps z e))); spare = a.spare }
+  on_crossed z e t = record { means = recovering_by decided (rw e t) (rw e (ap (λ x. whole p x m) (decided.crossed_keeps z e))); spare = a.spare }
 
   -- the answer by its number and count
   pub by_success : {k : ℕ} → k ≡ recovery_number r → k ≡ 0 → r ≡ recovery.Recovered

@@ -20,7 +20,7 @@ pub shift_any : (h : Held) (v m v' m' : List ℕ) (j p : ℕ) → refusal_of (st
 unfolding refusal_of state_of
 shift_any h v m v' m' j p e = e
 
--- a command that writes nothing, and one that writes a text
+-- a command that writes no line, and one that writes one
 pub quiet_acts : {c k : Command} {h g : Held} {v m v' m' : List ℕ} (l : List ℕ) → c ≡ k → Acts k h v m [] g v' m' → Acts c h v m (take 0 l) g v' m' × Wrote l (take 0 l) l 0
 quiet_acts {c} {k} {h} {g} {v} {m} {v'} {m'} l e r = (subst (λ (x : Command). Acts x h v m [] g v' m') (sym e) r, wrote_none l)
 

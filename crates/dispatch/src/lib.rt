@@ -11,7 +11,7 @@ ghost use Rattle.act.specs.Acts.{state_of, Kept, Acts};
 use act::{Held, plans, symbols};
 use commands::Command;
 
-// The plan after a command, and the length of its text; 0 where it writes none.
+// The plan after a command, and the length of its line; 0 where it writes none.
 #[derive(Clone, Copy)]
 pub struct Done {
     pub held: Held,

@@ -1,4 +1,4 @@
-// A job over lent buffers: its next command is read and performed, and its text written.
+// A job over lent buffers: its next command is read and performed, and its line written.
 // Entry: perform. take_turn is public for the crates above only.
 #![tactic(auto)]
 

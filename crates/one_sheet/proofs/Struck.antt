@@ -11,14 +11,14 @@ use Rattle.pieces.specs.ReadBack.{Letterless, nothing, more, letterless_fields, 
 use Rattle.refusals.specs.Refusals.{check_number}
 use Rattle.refusals.proofs.RefusalLaws.{check_not_eleven, check_number_byte}
 use Rattle.refusals.specs.declared.Check.{Check}
-use Rattle.lines.specs.Lines.{line, recovered_word, rounds_word, loose_word, crossed_word, sealed_word, symbol_word, figures_word, fetch_word, refused_word, end_word}
+use Rattle.lines.specs.Lines.{line, recovered_word, loose_word, crossed_word, sealed_word, symbol_word, figures_word, fetch_word, refused_word, end_word}
 use Rattle.state.specs.State.{State}
 use Rattle.answers.specs.declared.Recovery.{Recovery}
 use Rattle.answers.specs.declared.Recovery.TheVariants.{Recovered, Crossed, Loose, Refused}
 use Rattle.commands.specs.declared.Command.{Command}
 use Rattle.commands.specs.declared.Command.TheVariants.{NewPlan, SetShift, SetSymbol, MarkOne, MarkRun, Recover, Seal, Show, Figures, Straight, Powers, Ruler, Fetch}
 use Rattle.act.specs.Meaning.{Means}
-use Rattle.act.proofs.RecoveringLaws.{recovery_text, recovering_is}
+use Rattle.act.proofs.RecoveringLaws.{recovery_line, recovering_is}
 use Rattle.turns.specs.Sheets.{Sheet, refused_line, ends, unknown, short, refused, goes_on}
 
 -- the words that are struck, with a space behind them, and then anything
@@ -125,16 +125,12 @@ empty_free e f = rw e f
 line_free : {x rest : List ℕ} (word ns : List ℕ) → plain word ≡ true → x ≡ line word ns → Free rest → Free (x ++ rest)
 line_free {rest = rest} word ns h e f = rw e (free_line word ns rest h f)
 
--- two of them
-lines_free : {x rest : List ℕ} (word ns other ms : List ℕ) → plain word ≡ true → plain other ≡ true → x ≡ line word ns ++ line other ms → Free rest → Free (x ++ rest)
-lines_free {rest = rest} word ns other ms h k e f = rw (e, append_assoc (line word ns) (line other ms) rest) (free_line word ns _ h (free_line other ms rest k f))
-
-recovery_free : (s : State) (k : ℕ) (r : Recovery) (w : List ℕ) {x rest : List ℕ} → x ≡ recovery_text s k r w → Free rest → Free (x ++ rest)
-unfolding plain plain_at recovered_word rounds_word loose_word crossed_word
-recovery_free s k Recovered w e f = lines_free recovered_word _ rounds_word _ refl refl e f
-recovery_free s k (Loose z) w e f = line_free loose_word _ refl e f
-recovery_free s k (Crossed z) w e f = line_free crossed_word _ refl e f
-recovery_free s k (Refused x) w e f = empty_free e f
+recovery_free : (s : State) (r : Recovery) (w : List ℕ) {x rest : List ℕ} → x ≡ recovery_line s r w → Free rest → Free (x ++ rest)
+unfolding plain plain_at recovered_word loose_word crossed_word
+recovery_free s Recovered w e f = line_free recovered_word _ refl e f
+recovery_free s (Loose z) w e f = line_free loose_word _ refl e f
+recovery_free s (Crossed z) w e f = line_free crossed_word _ refl e f
+recovery_free s (Refused x) w e f = empty_free e f
 
 means_free : (s s' : State) (x : List ℕ) {rest : List ℕ} (c : Command) → Means c s s' x → Free rest → Free (x ++ rest)
 unfolding Means plain plain_at sealed_word symbol_word figures_word fetch_word
@@ -143,7 +139,7 @@ means_free s s' x (SetShift j p) m f = empty_free m.1 f
 means_free s s' x (SetSymbol c v) m f = empty_free m.1 f
 means_free s s' x (MarkOne c) m f = empty_free m.1 f
 means_free s s' x (MarkRun c k) m f = empty_free m.1 f
-means_free s s' x Recover m f = let q = recovering_is m in recovery_free s q.0 m.answer m.list q.2 f
+means_free s s' x Recover m f = recovery_free s m.answer m.list (recovering_is m).0 f
 means_free s s' x Seal m f = line_free sealed_word _ refl m.says f
 means_free s s' x (Show c) m f = line_free symbol_word _ refl m.1 f
 means_free s s' x Figures m f = line_free figures_word _ refl m.says f

@@ -18,10 +18,8 @@ use Rattle.code.proofs.Laws.Carrying.{carried_some}
 use Rattle.code.proofs.Laws.MarksLaws.{erasures_erased}
 use Rattle.code.specs.Laws.ParityCount.{messages}
 use Rattle.code.proofs.Laws.ParityCount.{message_lists}
-use Rattle.code.proofs.Theorems.{fetch_list_some, rounds_some}
+use Rattle.code.proofs.Theorems.{fetch_list_some}
 use Rattle.promises.proofs.Building.{map_bytes}
-use Rattle.promises.specs.Promises.{Decides}
-use Rattle.promises.proofs.Building.{decided_forest}
 use Rattle.answers.specs.declared.Recovery.{Recovery}
 use Rattle.answers.specs.declared.Recovery.TheVariants as recovery
 use Rattle.commands.specs.Commands.{size_of, one, command_of, parsed}
@@ -38,7 +36,7 @@ use Rattle.act.specs.Meaning.{Means}
 use Rattle.act.specs.Acts.{Makes}
 use Rattle.act.proofs.ActLaws.{blank_makes, straight_makes, powers_makes, ruler_makes}
 use Rattle.act.proofs.MeaningOnce.{Standing, means_stands}
-use Rattle.act.proofs.RecoveringLaws.{Took, recovery_text, recovery_state, recovering_by, loose_took, crossed_took}
+use Rattle.act.proofs.RecoveringLaws.{recovery_line, recovery_state, recovering_by}
 use Rattle.act.proofs.StateLaws.{place_inside, mark_inside, run_inside, shift_inside, recover_planned, seal_planned, figures_planned, fetch_planned}
 use Rattle.turns.specs.Sheets as sheets
 use Rattle.turns.specs.Sheets.{Sheet, start}
@@ -117,29 +115,15 @@ recovered_ready k (recovery.Loose z) v l w = record { sound = λ _. k }
 recovered_ready k (recovery.Crossed z) v l w = record { sound = λ _. k }
 recovered_ready k (recovery.Refused x) v l w = record { sound = λ _. k }
 
--- a recovered block has its number of rounds
-took_some : {s : State} → Sound s → (r : Recovery) {v w : List ℕ} → Decides (layout_of s.plan) (erasures (layout_of s.plan) s.marks) s.block r v w → (k : ℕ) × Took s r k
-took_some {s} k recovery.Recovered d =
-    let L = layout_of s.plan in
-    let E = erasures L s.marks in
-    let ok = good_valid s.plan k.good in
-    let er = erasures_erased L s.marks in
-    let n = rounds_some L ok E er (decided_forest ok er d refl) in
-    (n.0, record { rounds = λ _. n.1 })
-took_some k (recovery.Loose z) d = (0, loose_took)
-took_some k (recovery.Crossed z) d = (0, crossed_took)
-took_some k (recovery.Refused x) d = absurd (d.not_refused x refl)
-
 recover_some : {s : State} → Sound s → Some Recover s
 unfolding Means
 recover_some {s} k =
     let L = layout_of s.plan in
     let d = decides_some L (good_valid s.plan k.good) (erasures_erased L s.marks) s.block (block_places k) k.symbols in
-    let o = took_some k d.0 d.3.0 in
     record {
       state = recovery_state s d.0 d.1;
-      text = recovery_text s o.0 d.0 d.2;
-      means = recovering_by o.0 o.1 d.3.0 refl refl;
+      text = recovery_line s d.0 d.2;
+      means = recovering_by d.3.0 refl refl;
       ready = recovered_ready k d.0 d.1 (places_block s.plan d.1 d.3.1.0) d.3.1.1;
     }
 

@@ -1,9 +1,7 @@
 -- What the turns of peeling promise up to `peel` (Peels), and the loop's invariant (Peeling).
 -- L is always the layout of n, t and the shifts.
-use Rattle.std.specs.Prelude.{◌≡◌, ◌≢◌, List, ℕ, ◌+◌, ◌-◌, ◌*◌, ◌≤◌, ◌<◌, get_or, set}
-use Rattle.std.proofs.Common.{sym, ◌∙◌, arith}
-use Rattle.std.proofs.Math.Path.{ap}
-use Rattle.std.proofs.Math.ListN.{length, length-set}
+use Rattle.std.specs.Prelude.{◌≡◌, ◌≢◌, List, ℕ, ◌+◌, ◌-◌, ◌*◌, ◌≤◌, ◌<◌, length, get_or, set}
+use Rattle.std.proofs.Common.{sym, ◌∙◌, ap, subst, arith, length-set}
 use Rattle.math.specs.Members.{without}
 use Rattle.math.specs.Xor.{◌⊕◌}
 use Rattle.bounds.specs.Bounds.{max_t}
@@ -12,8 +10,8 @@ use Rattle.plan.specs.GoodPlan.{GoodPlan}
 use Rattle.code.specs.Checks.{update}
 use Rattle.tables.specs.Picture.{counts, Picture, Pictured, Settles, Stuck}
 use Rattle.tables.proofs.Bounds.{tally_counts}
-use Rattle.queue.specs.Queue.{Below, Queued, Enters, emptied}
-use Rattle.queue.specs.RowQueue.{RowQueue, rows_full, head_row, row_passed, row_room, row_taken}
+use Rattle.tables.specs.Singles.{Lowers}
+use Rattle.queue.specs.Queue.{Below, Queued, Waits, Enters, room, full, entered, passed, taken, emptied}
 use Rattle.settling.specs.Settling.{settles_none, settles_more}
 use Rattle.settling.specs.Takes.{One, Takes}
 
@@ -28,8 +26,9 @@ pub record Reached (L : Layout) (E : List ℕ) (u : ℕ → ℕ) (sum tally plac
 pub record Ready (n t : ℕ) (shifts sum tally queue place value : List ℕ) (head tail count : ℕ) : Type 0 where
   pub good : GoodPlan n t shifts
   pub pictured : Pictured (layout n t shifts) sum tally
-  pub rows : RowQueue tally queue (2 * t) head tail
+  pub queued : Queued tally queue (Below (2 * t)) head tail
   pub counted : count ≤ head
+  pub queue_long : length queue ≡ 2 * t
   pub place_long : length place ≡ 2 * t
   pub value_long : length value ≡ 2 * t
 
@@ -42,8 +41,14 @@ pub record Steps (n t : ℕ) (shifts sum tally queue place value : List ℕ) (he
 
 module _ {n t : ℕ} {shifts sum tally queue place value : List ℕ} {head tail count : ℕ}
     (d : Ready n t shifts sum tally queue place value head tail count) (h : head < tail) where
+  pub head_row : get_or queue head 0 < 2 * t
+  head_row = d.queued.entries.looked head h
+
+  pub head_long : head < length queue
+  head_long = omega (arith, full (λ r l. l) d.queued, d.queue_long)
+
   pub count_lt : count < 2 * t
-  count_lt = omega (arith, d.counted, rows_full d.rows)
+  count_lt = omega (arith, d.counted, full (λ r l. l) d.queued)
 
   pub count_long : (count < length place) × (count < length value)
   count_long = (omega (arith, count_lt, d.place_long), omega (arith, count_lt, d.value_long))
@@ -53,7 +58,7 @@ module _ {n t : ℕ} {shifts sum tally queue place value : List ℕ} {head tail 
     (d : Ready n t shifts sum tally queue place value head tail count) (h : head < tail) (at_head : r ≡ get_or queue head 0) where
   pub head_tally : r < length tally
   unfolding layout
-  head_tally = omega (arith, head_row d.rows h at_head, d.pictured.picture.counted.long)
+  head_tally = omega (arith, at_head, head_row d h, d.pictured.picture.counted.long)
 
   pub steps_over : counts tally r ≢ 1
       → Steps n t shifts sum tally queue place value head count sum tally queue place value tail count
@@ -61,8 +66,9 @@ module _ {n t : ℕ} {shifts sum tally queue place value : List ℕ} {head tail 
     ready = record {
       good = d.good;
       pictured = d.pictured;
-      rows = row_passed d.rows h at_head e;
+      queued = passed d.queued h (λ o. e (rw at_head o));
       counted = omega (arith, d.counted);
+      queue_long = d.queue_long;
       place_long = d.place_long;
       value_long = d.value_long;
     };
@@ -70,17 +76,22 @@ module _ {n t : ℕ} {shifts sum tally queue place value : List ℕ} {head tail 
   }
 
   pub head_one : counts tally r ≡ 1 → One n t shifts sum tally r
-  head_one e = record { good = d.good; pictured = d.pictured; row = head_row d.rows h at_head; left_one = e }
+  head_one e = record { good = d.good; pictured = d.pictured; row = rw at_head (head_row d h); left_one = e }
 
   module _ {sum' tally' : List ℕ} {c x b : ℕ} (k : Takes (layout n t shifts) sum tally sum' tally' r c x b) where
-    pub rest_room : {rest : ℕ} → rest ≡ counts tally' b → rest ≡ 1 → tail < length queue
+    step_waits : Waits tally' queue (Below (2 * t)) (head + 1) tail b
     unfolding layout
-    rest_room = row_room d.rows h at_head k.inside k.lowers
+    step_waits = taken d.queued h k.inside (subst (λ q. Lowers tally tally' q b) at_head k.lowers)
+
+    step_room : counts tally' b ≡ 1 → tail < length queue
+    step_room e = omega (arith, room (λ r l. l) step_waits e, d.queue_long)
+
+    pub rest_room : {rest : ℕ} → rest ≡ counts tally' b → rest ≡ 1 → tail < length queue
+    rest_room e one = step_room (sym e ∙ one)
 
     pub steps : {queue' place' value' : List ℕ} {rest tail' : ℕ} → rest ≡ counts tally' b → Enters queue tail b rest queue' tail' → length queue' ≡ length queue
         → place' ≡ set place count c → value' ≡ set value count x
         → Steps n t shifts sum tally queue place value head count sum' tally' queue' place' value' tail' (count + 1)
-    unfolding layout
     steps er e lq ep ev = record {
       ready = record {
         good = d.good;
@@ -89,8 +100,9 @@ module _ {n t : ℕ} {shifts sum tally queue place value : List ℕ} {head tail 
           u = update d.pictured.u c (d.pictured.u c ⊕ x);
           picture = (k.next d.pictured.E d.pictured.u d.pictured.picture).picture;
         };
-        rows = row_taken d.rows h at_head k.inside k.lowers er e lq;
+        queued = entered step_waits step_room er e;
         counted = omega (arith, d.counted);
+        queue_long = lq ∙ d.queue_long;
         place_long = ap length ep ∙ length-set place count c ∙ d.place_long;
         value_long = ap length ev ∙ length-set value count x ∙ d.value_long;
       };
@@ -144,8 +156,9 @@ pub peelable_ready : {n t : ℕ} {shifts sum tally queue place value queue' plac
 peelable_ready d q l k = record {
   good = d.good;
   pictured = d.pictured;
-  rows = record { queued = q; long = l ∙ d.queue_long };
+  queued = q;
   counted = omega arith;
+  queue_long = l ∙ d.queue_long;
   place_long = k ∙ d.place_long;
   value_long = d.value_long;
 }
@@ -167,7 +180,7 @@ ready_long d p =
     let z = p.pictured.picture in (
       z.sum_long ∙ sym y.sum_long,
       z.counted.long ∙ sym y.counted.long,
-      p.rows.long ∙ sym d.rows.long,
+      p.queue_long ∙ sym d.queue_long,
       p.place_long ∙ sym d.place_long,
       p.value_long ∙ sym d.value_long,
     )
@@ -175,7 +188,7 @@ ready_long d p =
 pub peeling_less : {n t : ℕ} {shifts sum₀ tally₀ sum tally queue place value : List ℕ} {head tail count : ℕ}
     → Peeling n t shifts sum₀ tally₀ sum tally queue place value head tail count → head < tail
     → (head < 2 * max_t) × (2 * t - (head + 1) < 2 * t - head)
-peeling_less p h = (omega (arith, rows_full p.ready.rows, p.ready.good.t_max), omega (arith, rows_full p.ready.rows))
+peeling_less p h = (omega (arith, full (λ r l. l) p.ready.queued, p.ready.good.t_max), omega (arith, full (λ r l. l) p.ready.queued))
 
 pub peeling_step : {n t : ℕ} {shifts sum₀ tally₀ sum tally queue place value : List ℕ} {head tail count : ℕ}
     {sum' tally' queue' place' value' : List ℕ} {tail' count' : ℕ}
@@ -189,7 +202,7 @@ pub peeling_end : {n t : ℕ} {shifts sum₀ tally₀ sum tally queue place valu
     → Peels (layout n t shifts) sum₀ tally₀ sum tally place value count
 unfolding layout Stuck
 peeling_end p h = record {
-  few = omega (arith, p.ready.counted, p.ready.rows.queued.order, rows_full p.ready.rows);
+  few = omega (arith, p.ready.counted, p.ready.queued.order, full (λ r l. l) p.ready.queued);
   place_long = p.ready.place_long;
   value_long = p.ready.value_long;
   peeled = λ E u q.
@@ -199,6 +212,6 @@ peeling_end p h = record {
         x = y.x;
         picture = y.picture;
         settles = y.settles;
-        stuck = λ r l e. emptied p.ready.rows.queued h r l (tally_counts p.ready.good y.picture.counted l ∙ e);
+        stuck = λ r l e. emptied p.ready.queued h r l (tally_counts p.ready.good y.picture.counted l ∙ e);
       };
 }

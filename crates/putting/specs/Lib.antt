@@ -1,3 +1,3 @@
--- A turn's text on the sheet.
+-- A line on the sheet.
 pub mod Putting
 pub mod PutLaws

@@ -1,4 +1,4 @@
--- A text that fits stands behind the others; one that does not leaves the sheet as it was.
+-- A line that fits stands behind the others; one that does not leaves the sheet as it was.
 -- Main results: put_full, put_fits, put_long.
 use Rattle.std.specs.Prelude.{◌≡◌, refl, List, ◌++◌, ℕ, ◌+◌, ◌-◌, ◌≤◌, ◌<◌, length, take, drop}
 use Rattle.std.proofs.Common.{sym, ◌∙◌, ap, append_assoc, arith, length-drop, length-append, take_at, drop_at, drop-drop, length-take-le}

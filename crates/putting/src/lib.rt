@@ -1,4 +1,4 @@
-// The text of a turn put on a lent sheet behind those that stand there, and how far the job has come by it.
+// The line of a turn put on a lent sheet behind those that stand there, and how far the job has come by it.
 // Public for the crate sheet only: put_turn.
 #![tactic(auto)]
 
@@ -18,7 +18,7 @@ pub struct Reached {
     pub phase: u8,
 }
 
-// After a command more may follow; the text of any other turn is the last. A turn without a text puts nothing, and the job goes no further.
+// After a command more may follow; the line of any other turn is the last. A turn without a line puts nothing, and the job goes no further.
 pub fn put_turn(step: Step, at: usize, line: &[u8], sheet: &mut [u8], to: usize) -> Reached
     requires { Fits step.turn at (length line.now) × (to ≤ length sheet.old) }
     ensures { (result.held ≡ step.held) × Placed step.turn at line.now sheet.old to sheet.new result.at result.to result.phase }
@@ -44,7 +44,7 @@ pub fn put_turn(step: Step, at: usize, line: &[u8], sheet: &mut [u8], to: usize)
     }
 }
 
-// The text is put on the sheet, if it fits.
+// The line is put on the sheet, if it fits.
 fn put_line(
     held: Held,
     at: usize,

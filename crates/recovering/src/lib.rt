@@ -13,11 +13,10 @@ ghost use Rattle.blocks.specs.Wholes.{Whole, Recovered};
 
 use act::Held;
 use calls::erasure_count;
-use lines::{crossed_line, loose_line, recovered_line, rounds_line};
+use lines::{crossed_line, loose_line, recovered_line};
 use plan::Plan;
 use recovery::recover;
 use refusals::Refusal;
-use rounding::rounds;
 use slices::clear_bytes;
 
 // The number of marked places.
@@ -29,8 +28,7 @@ fn marked(plan: Plan, marks: &[u8]) -> usize
     count.value()
 }
 
-// Recovery on buffers of the plan's lengths: nothing refuses the call, so its number is 0, that of loose, or that of crossed. The rounds go by the marks
-// before they are cleared.
+// Recovery on buffers of the plan's lengths: nothing refuses the call, so its number is 0, that of loose, or that of crossed.
 fn recover_whole(
     plan: Plan,
     block: &mut [u8],
@@ -46,10 +44,8 @@ fn recover_whole(
     let number = answer.number();
     let shown = answer.count();
     if number == 0 {
-        let took = rounds(plan, &marks[..], count);
         clear_bytes(&mut marks[..]);
-        let next = recovered_line(&mut line[..], 0, count);
-        return rounds_line(line, next, took);
+        return recovered_line(line, 0, count);
     }
     if number == Refusal::Loose.number() {
         return loose_line(line, 0, shown, &witness[..]);

@@ -16,12 +16,12 @@ use Rattle.one_sheet.specs.Begins.{Begins}
 use Rattle.sheet.specs.declared.Ran.{Ran}
 use Rattle.sheet.specs.declared.Ran.TheVariants.{Whole, Full}
 
--- the text that follows: that of a command that goes on, or where none does the last line
+-- the line that follows: that of a command that goes on, or where none does the last line
 pub data Follows (o : ℕ) (s : State) (b said : List ℕ) : Type 0 where
   goes : (c : Command) (s' : State) → parsed b ≡ front.Whole c → refusal_of s c ≡ Pass → Means c s s' said → Follows o s b said
   closes : ((c : Command) → parsed b ≡ front.Whole c → refusal_of s c ≢ Pass) → Sheet o s b said → Follows o s b said
 
--- a sheet that was cut: the text is the job's first lines, and there is no room for the text that follows
+-- a sheet that was cut: the text is the job's first lines, and there is no room for the line that follows
 pub record Cut (job : List ℕ) (room : ℕ) (text : List ℕ) : Type 0 where
   pub offset : ℕ
   pub state : State

@@ -1,4 +1,4 @@
-// A whole job over one slice: command after command is performed, and what each writes is put on a lent sheet.
+// A whole job over one slice: command after command is performed, line after line is put on a lent sheet.
 // Entry: run.
 #![tactic(auto)]
 
@@ -14,7 +14,7 @@ use lines::LINE;
 use putting::{Reached, put_turn};
 use turns::start;
 
-// Whole: the sheet's length. Full: the lent sheet is too short; the length of what fitted, each command's text whole.
+// Whole: the sheet's length. Full: the lent sheet is too short; the length of the lines that fitted.
 #[derive(Clone, Copy)]
 pub enum Ran {
     Whole(usize),
@@ -70,7 +70,7 @@ fn run_all(
     Ran::Full(here.to)
 }
 
-// One command: its turn, and its text put on the sheet.
+// One command: its turn, and its line put on the sheet.
 fn next(
     here: Reached,
     block: &mut [u8],

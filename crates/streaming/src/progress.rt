@@ -110,7 +110,7 @@ fn quickly(
     quick(plan.n * plan.t, block, marks, bytes, at, sheet, to)
 }
 
-// One turn, if there is room for its text.
+// One turn, if there is room for its line.
 fn turn(
     held: Held,
     block: &mut [u8],

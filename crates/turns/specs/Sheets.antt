@@ -28,6 +28,6 @@ pub data Sheet : ℕ → State → List ℕ → List ℕ → Type 0 where
   unknown : {o : ℕ} {s : State} {b : List ℕ} → parsed b ≡ Unknown → Sheet o s b (refused_line (parsed_check Unknown) o)
   short : {o : ℕ} {s : State} {b : List ℕ} → parsed b ≡ Short → Sheet o s b (refused_line (parsed_check Short) o)
   refused : {o : ℕ} {s : State} {b : List ℕ} (c : Command) → parsed b ≡ Whole c → refusal_of s c ≢ Pass → Sheet o s b (refused_line (refusal_of s c) o)
-  -- a command that is not refused writes its text, and the rest follows from the state after it
+  -- a command that is not refused writes its line, and the rest follows from the state after it
   goes_on : {o : ℕ} {s : State} {b : List ℕ} (s' : State) (text rest : List ℕ) (c : Command) → parsed b ≡ Whole c → refusal_of s c ≡ Pass → Means c s s' text →
       Sheet (o + size_of (get_or b 0 0)) s' (drop (size_of (get_or b 0 0)) b) rest → Sheet o s b (text ++ rest)

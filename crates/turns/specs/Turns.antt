@@ -25,7 +25,7 @@ without_plan p = record { planned = false; plan = p }
 abbrev pub unplanned : Held
 unplanned = without_plan no_plan
 
--- 01's number of a turn, and its values: the bytes of the job that it used, and those of the text that it wrote
+-- 01's number of a turn, and its values: the bytes of the job that it used, and those of the line that it wrote
 abbrev pub turn_number : Turn → ℕ
 turn_number Wait = 0
 turn_number (End count) = 0

@@ -14,7 +14,7 @@ use lines::{end_line, refused_line};
 use plan::Plan;
 use refusals::Refusal;
 
-// What comes of the bytes at hand. On: the bytes used and the length of the text. End, Stop: the length of the last line. Bad: what refuses the lent state.
+// What comes of the bytes at hand. On: the bytes used and the length of the line. End, Stop: the length of the last line. Bad: what refuses the lent state.
 #[derive(Clone, Copy)]
 pub enum Turn {
     Wait,

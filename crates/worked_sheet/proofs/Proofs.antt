@@ -1,8 +1,8 @@
 -- The proof that 01's sample job has its sheet, command by command; main result: specimen_table.
 -- The three recoveries are the four results of the specimen table, `Specimens`, whatever its value; the rest is computed.
 use Rattle.std.specs.Prelude.{◌≡◌, get_or, set, drop}
-use Rattle.std.proofs.Math.Path.{refl, sym, ap, subst, fun_ext}
-use Rattle.std.proofs.Common.{◌∙◌, arith}
+use Rattle.std.proofs.Math.Path.{refl, sym, ap, fun_ext}
+use Rattle.std.proofs.Common.{◌∙◌, subst, arith}
 use mathlib.Core.List.{List, [], ◌∷◌, ◌++◌}
 use Prim.Native.Nat.{ℕ, zero, suc}
 use Rattle.std.proofs.Math.ListN.{length, replicate}
@@ -16,7 +16,6 @@ use Rattle.plan.specs.declared.Plan.{Plan}
 use Rattle.code.specs.Places.{places}
 use Rattle.code.specs.Codewords.{at, bit_of}
 use Rattle.code.specs.Marks.{mark, mark_bytes, erasures}
-use Rattle.code.specs.Rounds.{Rounds}
 use Rattle.code.proofs.Laws.MarksLaws.{erasures_erased}
 use Rattle.promises.specs.Promises.{Decides}
 use Rattle.promises.proofs.Building.{decides_recovered, decides_loose, decides_crossed}
@@ -25,13 +24,13 @@ use Rattle.answers.specs.declared.Recovery.TheVariants as recovery
 use Rattle.commands.specs.Commands.{size_of, command_of, parsed}
 use Rattle.commands.specs.declared.Command.TheVariants.{NewPlan, SetShift, SetSymbol, MarkOne, Recover, Show}
 use Rattle.pieces.specs.Pieces.{fields, decimal, width_from}
-use Rattle.lines.specs.Lines.{line, recovered_word, rounds_word, loose_word, crossed_word, symbol_word, end_word}
+use Rattle.lines.specs.Lines.{line, recovered_word, loose_word, crossed_word, symbol_word, end_word}
 use Rattle.bits.specs.Bits.{Marked}
 use Rattle.state.specs.State.{State, fresh, with_plan, with_block}
 use Rattle.state.specs.Refusing.{early, refusal_of}
 use Rattle.bits.specs.MarkedLaws.{Bytes, marked_set, marked_clear}
 use Rattle.act.specs.Meaning.{Means}
-use Rattle.act.proofs.RecoveringLaws.{recovering_by, loose_took, crossed_took}
+use Rattle.act.proofs.RecoveringLaws.{recovering_by}
 use Rattle.turns.specs.Sheets as sheets
 use Rattle.turns.specs.Sheets.{Sheet, start}
 use Rattle.one_sheet.specs.OneSheet.{one_sheet}
@@ -124,18 +123,17 @@ module _ (results : Specimens) where
 
   loose_means : Means Recover (held (replicate 21 0) six_marks) (held (replicate 21 0) six_marks) (ascii "loose 6 0 7 16 2 10 17\n")
   unfolding Means with_block fresh line loose_word fields decimal width_from padded ascii
-  loose_means = recovering_by 0 loose_took (by_plan six_marks decided) refl refl
+  loose_means = recovering_by (by_plan six_marks decided) refl refl
     where
       decided : Decides job (erasures job six_marks) (replicate 21 0) (recovery.Loose 6) (replicate 21 0) (padded 14 (0 ∷ 7 ∷ 16 ∷ 2 ∷ 10 ∷ 17 ∷ []))
       decided = unfold layout in decides_loose job_valid (erasures_erased job six_marks) results.cycle
           (λ k c. omega (arith, ap (λ l. at l 0) (results.cycle_only k c))) (results.loose.one, results.loose.has) refl
 
-  recovered_means : Means Recover (held (set (replicate 21 0) 0 5) five_marks) (held whole (bits 0 0 0)) (ascii "recovered 5\nrounds 3\n")
-  unfolding Means with_block fresh plan line recovered_word rounds_word fields decimal width_from mark_bytes layout_of layout ascii
+  recovered_means : Means Recover (held (set (replicate 21 0) 0 5) five_marks) (held whole (bits 0 0 0)) (ascii "recovered 5\n")
+  unfolding Means with_block fresh plan line recovered_word fields decimal width_from mark_bytes layout_of layout ascii
   recovered_means =
       let count = ap (λ L. length (erasures L five_marks)) same_layout ∙ results.five_count in
-      recovering_by 3 (record { rounds = λ _. subst (λ L. Rounds L (erasures L five_marks) 3) (sym same_layout) results.five_rounds }) (by_plan five_marks decided)
-      (ap (λ k. line recovered_word (k ∷ []) ++ line rounds_word (3 ∷ [])) (sym count)) refl
+      recovering_by (by_plan five_marks decided) (ap (λ k. line recovered_word (k ∷ [])) (sym count)) refl
     where
       decided : Decides job (erasures job five_marks) (set (replicate 21 0) 0 5) recovery.Recovered whole (replicate 14 0)
       decided = unfold layout in decides_recovered results.recovered.has results.recovered.only_one refl
@@ -146,7 +144,7 @@ module _ (results : Specimens) where
 
   crossed_means : Means Recover (held (set whole 0 6) (bits 0 0 0)) (held (set whole 0 6) (bits 0 0 0)) (ascii "crossed 1 0\n")
   unfolding Means with_block fresh line crossed_word fields decimal width_from padded ascii
-  crossed_means = recovering_by 0 crossed_took (by_plan (bits 0 0 0) decided) refl refl
+  crossed_means = recovering_by (by_plan (bits 0 0 0) decided) refl refl
     where
       decided : Decides job (erasures job (bits 0 0 0)) (set whole 0 6) (recovery.Crossed 1) (set whole 0 6) (padded 14 (0 ∷ []))
       decided = unfold layout in decides_crossed job_valid (erasures_erased job (bits 0 0 0)) {l = 0 ∷ []} (rw none_marked results.crossed_rows) refl
@@ -163,11 +161,11 @@ module _ (results : Specimens) where
   unfolding parsed size_of command_of refusal_of early fresh plan with_block ascii
   symbol_line = sheets.goes_on (held whole (bits 0 0 0)) (ascii "symbol 17 5\n") _ (Show 17) refl refl show_means crossed_line
 
-  recovered_line : Sheet 31 (held (replicate 21 0) six_marks) (drop 31 sample_job) (ascii "recovered 5\nrounds 3\nsymbol 17 5\ncrossed 1 0\nend\n")
+  recovered_line : Sheet 31 (held (replicate 21 0) six_marks) (drop 31 sample_job) (ascii "recovered 5\nsymbol 17 5\ncrossed 1 0\nend\n")
   unfolding parsed size_of command_of refusal_of early fresh plan with_block ascii
   recovered_line =
       sheets.goes_on (held (set (replicate 21 0) 0 5) five_marks) [] _ (SetSymbol 0 5) refl refl (symbol_means (replicate 21 0) 5 cleared)
-      (sheets.goes_on (held whole (bits 0 0 0)) (ascii "recovered 5\nrounds 3\n") _ Recover refl refl recovered_means symbol_line)
+      (sheets.goes_on (held whole (bits 0 0 0)) (ascii "recovered 5\n") _ Recover refl refl recovered_means symbol_line)
 
   loose_line : Sheet 30 (held (replicate 21 0) six_marks) (drop 30 sample_job) sample_sheet
   unfolding parsed size_of command_of refusal_of early fresh plan with_block ascii

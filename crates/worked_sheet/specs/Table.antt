@@ -18,12 +18,11 @@ sample_job =
     ∷ 0x04 ∷ 0x10 ∷ 0x00 ∷ 0x04 ∷ 0x02 ∷ 0x00 ∷ 0x04 ∷ 0x0A ∷ 0x00 ∷ 0x04 ∷ 0x11 ∷ 0x00 ∷ 0x06 ∷ 0x03 ∷ 0x00 ∷ 0x00 ∷ 0x05 ∷ 0x06
     ∷ 0x08 ∷ 0x11 ∷ 0x00 ∷ 0x03 ∷ 0x00 ∷ 0x00 ∷ 0x06 ∷ 0x06 ∷ []
 
--- "Sheet, whole", `\n` being the line feed that ends a line, with the line that 02, N5, adds
+-- "Sheet, whole", `\n` being the line feed that ends a line
 abbrev pub sample_sheet : List ℕ
 sample_sheet =
     ascii "loose 6 0 7 16 2 10 17\n"
     ++ ascii "recovered 5\n"
-    ++ ascii "rounds 3\n"
     ++ ascii "symbol 17 5\n"
     ++ ascii "crossed 1 0\n"
     ++ ascii "end\n"

@@ -49,7 +49,7 @@ impl Job {
         self.line(&format!("symbol {c} {}", self.symbols[usize::from(c)]));
     }
 
-    /// Any command, and the line that it is known to write, if any; of 06 it may be two.
+    /// Any command, and the line that it is known to write, if any.
     pub fn known(&mut self, command: &[u8], line: Option<&str>) {
         self.bytes.extend_from_slice(command);
         line.into_iter().for_each(|line| self.line(line));
@@ -121,7 +121,7 @@ impl Job {
     }
 }
 
-/// A command, the line that it writes (or the two lines of 06), a second command that shows what the first did, and its line.
+/// A command, the line that it writes, a second command that shows what the first did, and its line.
 pub type Known = (&'static [u8], Option<&'static str>, &'static [u8], &'static str);
 
 /// Every command on a new plan of 2 sections of 16 symbols, its lines by hand.
@@ -129,9 +129,9 @@ pub const COMMANDS: [Known; 13] = [
     (&[0x01, 2, 16, 0], None, &[0x08, 31, 0], "symbol 31 0"),
     (&[0x02, 1, 5, 0], None, &[0x09], "figures 31 31 31 32"),
     (&[0x03, 3, 0, 9], None, &[0x08, 3, 0], "symbol 3 9"),
-    (&[0x04, 3, 0], None, &[0x06], "recovered 1\nrounds 1"),
-    (&[0x05, 3, 0, 2, 0], None, &[0x06], "recovered 2\nrounds 1"),
-    (&[0x06], Some("recovered 0\nrounds 0"), &[0x08, 0, 0], "symbol 0 0"),
+    (&[0x04, 3, 0], None, &[0x06], "recovered 1"),
+    (&[0x05, 3, 0, 2, 0], None, &[0x06], "recovered 2"),
+    (&[0x06], Some("recovered 0"), &[0x08, 0, 0], "symbol 0 0"),
     (&[0x07], Some("sealed 16"), &[0x08, 16, 0], "symbol 16 0"),
     (&[0x08, 3, 0], Some("symbol 3 0"), &[0x08, 4, 0], "symbol 4 0"),
     (&[0x09], Some("figures 16 1 1 2"), &[0x08, 5, 0], "symbol 5 0"),
@@ -141,7 +141,7 @@ pub const COMMANDS: [Known; 13] = [
     (&[0x0D], Some("fetch 0"), &[0x08, 6, 0], "symbol 6 0"),
 ];
 
-/// Document 01's job, by its commands, each with its line; and 02's line after `recovered`.
+/// Document 01's job, by its commands, each with its line.
 pub const SAMPLE: [(&[u8], Option<&str>); 15] = [
     (&[0x01, 3, 7, 0], None),
     (&[0x02, 1, 1, 0], None),
@@ -154,7 +154,7 @@ pub const SAMPLE: [(&[u8], Option<&str>); 15] = [
     (&[0x04, 17, 0], None),
     (&[0x06], Some("loose 6 0 7 16 2 10 17")),
     (&[0x03, 0, 0, 5], None),
-    (&[0x06], Some("recovered 5\nrounds 3")),
+    (&[0x06], Some("recovered 5")),
     (&[0x08, 17, 0], Some("symbol 17 5")),
     (&[0x03, 0, 0, 6], None),
     (&[0x06], Some("crossed 1 0")),
@@ -174,7 +174,7 @@ pub const FETCHES: [(&[u8], &str); 10] = [
     // two sections, whose one ring is closed by place 0; with its symbol set the others are recovered
     (
         &[1, 3, 7, 0, 2, 1, 1, 0, 2, 2, 3, 0, 5, 0, 0, 14, 0, 0x0D, 6, 3, 0, 0, 0, 0x0D, 6],
-        "fetch 1 0\nloose 14 0 7 6 13 5 12 4 11 3 10 2 9 1 8\nfetch 0\nrecovered 13\nrounds 7\nend\n",
+        "fetch 1 0\nloose 14 0 7 6 13 5 12 4 11 3 10 2 9 1 8\nfetch 0\nrecovered 13\nend\n",
     ),
     // all marked: the data places
     (&[1, 3, 7, 0, 2, 1, 1, 0, 2, 2, 3, 0, 5, 0, 0, 21, 0, 0x0D], "fetch 8 0 1 2 3 4 5 6 7\nend\n"),
@@ -186,33 +186,6 @@ pub const FETCHES: [(&[u8], &str); 10] = [
     (&[0x0D], "refused 9 0\n"),
     (&[0x0E], "refused 7 0\n"),
     (&[1, 3, 7, 0, 0x0D, 0x0E, 0x0D], "fetch 0\nrefused 7 5\n"),
-];
-
-/// Jobs with rounds, and their sheets by hand. In document 01's plan places 0, 7 and 14 are on one top row, 7 and 16 on one bottom row.
-pub const ROUNDS: [(&[u8], &str); 14] = [
-    // no marks; one; what is recovered is no mark any more
-    (&[1, 3, 7, 0, 2, 1, 1, 0, 2, 2, 3, 0, 6], "recovered 0\nrounds 0\nend\n"),
-    (&[1, 3, 7, 0, 2, 1, 1, 0, 2, 2, 3, 0, 4, 3, 0, 6, 6], "recovered 1\nrounds 1\nrecovered 0\nrounds 0\nend\n"),
-    // two and three on one top row, each alone on its bottom row: all in the first round
-    (&[1, 3, 7, 0, 2, 1, 1, 0, 2, 2, 3, 0, 4, 0, 0, 4, 7, 0, 6], "recovered 2\nrounds 1\nend\n"),
-    (&[1, 3, 7, 0, 2, 1, 1, 0, 2, 2, 3, 0, 4, 0, 0, 4, 7, 0, 4, 14, 0, 6], "recovered 3\nrounds 1\nend\n"),
-    // a chain of three: the middle one is alone on neither row before the second round
-    (&[1, 3, 7, 0, 2, 1, 1, 0, 2, 2, 3, 0, 4, 0, 0, 4, 7, 0, 4, 16, 0, 6], "recovered 3\nrounds 2\nend\n"),
-    // the same with a third on the top row, which is settled in the first round
-    (&[1, 3, 7, 0, 2, 1, 1, 0, 2, 2, 3, 0, 4, 0, 0, 4, 7, 0, 4, 14, 0, 4, 16, 0, 6], "recovered 4\nrounds 2\nend\n"),
-    // two sections but for one place, the first or the last: a chain of thirteen
-    (&[1, 3, 7, 0, 2, 1, 1, 0, 2, 2, 3, 0, 5, 1, 0, 13, 0, 6], "recovered 13\nrounds 7\nend\n"),
-    (&[1, 3, 7, 0, 2, 1, 1, 0, 2, 2, 3, 0, 5, 0, 0, 13, 0, 6], "recovered 13\nrounds 7\nend\n"),
-    // the longest chain that there is; a whole section, whose marks are alone on both rows
-    (&[0x0A, 16, 0, 8, 5, 1, 0, 0xFF, 0x0F, 6], "recovered 4095\nrounds 2048\nend\n"),
-    (&[0x0A, 16, 0, 8, 5, 0, 0, 0, 8, 6], "recovered 2048\nrounds 1\nend\n"),
-    // t of 1: one mark there can be
-    (&[1, 2, 1, 0, 4, 1, 0, 6], "recovered 1\nrounds 1\nend\n"),
-    // loose and crossed blocks have no such line, and their marks stay
-    (&[1, 2, 1, 0, 5, 0, 0, 2, 0, 6, 3, 0, 0, 5, 6], "loose 2 0 1\nrecovered 1\nrounds 1\nend\n"),
-    (&[1, 2, 1, 0, 3, 0, 0, 5, 6, 4, 1, 0, 6], "crossed 1 0\nrecovered 1\nrounds 1\nend\n"),
-    // no plan
-    (&[6], "refused 9 0\n"),
 ];
 
 /// A job with every command and every line, worked out by hand: n 2, t 3, shifts 0 1 has one ring, and sealing copies the one data symbol to all
@@ -234,22 +207,22 @@ pub const EVERY: [(&[u8], Option<&str>); 34] = [
     (&[0x07], Some("sealed 1")),
     (&[0x08, 5, 0], Some("symbol 5 9")),
     (&[0x05, 1, 0, 5, 0], None),
-    (&[0x06], Some("recovered 5\nrounds 3")),
+    (&[0x06], Some("recovered 5")),
     (&[0x08, 3, 0], Some("symbol 3 9")),
     (&[0x05, 0, 0, 6, 0], None),
     (&[0x06], Some("loose 6 0 3 2 5 1 4")),
     (&[0x0D], Some("fetch 1 0")),
     (&[0x03, 0, 0, 1], None),
     (&[0x0D], Some("fetch 0")),
-    (&[0x06], Some("recovered 5\nrounds 3")),
+    (&[0x06], Some("recovered 5")),
     (&[0x08, 4, 0], Some("symbol 4 1")),
     (&[0x03, 1, 0, 0], None),
     (&[0x06], Some("crossed 1 1")),
     (&[0x0D], Some("fetch 0")),
     (&[0x04, 1, 0], None),
     (&[0x08, 1, 0], Some("symbol 1 0")),
-    (&[0x06], Some("recovered 1\nrounds 1")),
+    (&[0x06], Some("recovered 1")),
     (&[0x08, 1, 0], Some("symbol 1 1")),
     (&[0x05, 6, 0, 0, 0], None),
-    (&[0x06], Some("recovered 0\nrounds 0")),
+    (&[0x06], Some("recovered 0")),
 ];

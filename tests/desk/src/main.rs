@@ -8,7 +8,7 @@ mod job;
 mod prng;
 mod program;
 
-use job::{Job, COMMANDS, EVERY, FETCHES, ROUNDS, SAMPLE};
+use job::{Job, COMMANDS, EVERY, FETCHES, SAMPLE};
 use prng::Prng;
 use program::{fault, file_of, finish, hung, run, start, Feed, Ran, PIPE};
 use std::fs::{File, OpenOptions};
@@ -172,9 +172,9 @@ impl Tests {
         }
     }
 
-    /// Each of these jobs: whole, byte by byte and in cuts.
-    fn by_hand(&mut self, jobs: &[(&[u8], &str)]) {
-        for (job, sheet) in jobs {
+    /// Each job with fetch lists: whole, byte by byte and in cuts.
+    fn fetches(&mut self) {
+        for (job, sheet) in FETCHES {
             let what = format!("{job:02X?}");
             self.try_job(&what, job, Feed::Pipe, sheet);
             self.try_job(&format!("{what} byte by byte"), job, Feed::Cuts(&vec![1; job.len()]), sheet);
@@ -322,22 +322,6 @@ impl Tests {
         }
     }
 
-    /// 06 writes two lines: these around the place where the sheet's buffer ends, at each of their bytes.
-    fn two_lines(&mut self) {
-        for length in BUFFER - 34..=BUFFER + 4 {
-            let mut job = Job::of(16, 2_048);
-            job.bytes = vec![0x0A, 16, 0, 8];
-            job.lines_to(length);
-            job.run(1, 4_095);
-            job.known(&[0x06], Some("recovered 4095\nrounds 2048"));
-            job.known(&[0x06], Some("recovered 0\nrounds 0"));
-            job.show(32_767);
-            self.try_job(&format!("after {length} bytes"), &job.bytes, Feed::File, &job.ended());
-            let cuts = self.cuts(job.bytes.len(), 4_000);
-            self.try_job(&format!("after {length} bytes, in cuts of {cuts:?}"), &job.bytes, Feed::Cuts(&cuts), &job.ended());
-        }
-    }
-
     // ---- the program's two ends
 
     /// The lines that are due come before more of the job is there; and after a refusal the program ends though more could come.
@@ -352,7 +336,7 @@ impl Tests {
         job.write(&[0x04, 2]);
         job.write(&[0]);
         job.write(&[0x06, 0x09]);
-        self.due(&mut job, "three more", "recovered 1\nrounds 1\nfigures 7 1 1 2\n");
+        self.due(&mut job, "two more", "recovered 1\nfigures 7 1 1 2\n");
         job.write(&[0x05, 6, 0, 15, 0, 0x0D]);
         self.due(&mut job, "a list", "fetch 8 6 7 8 9 10 11 12 13\n");
         drop(job.stdin.take());
@@ -580,20 +564,18 @@ impl Open {
 fn main() {
     let start = std::time::Instant::now();
     let mut tests = Tests { rng: Prng::of(SEED), name: "", sheets: 0, failures: 0 };
-    let all: [Test; 16] = [
+    let all: [Test; 14] = [
         ("examples", Tests::examples),
         ("the sample job cut everywhere", |tests| tests.ends_everywhere(&SAMPLE)),
         ("every command cut everywhere", |tests| tests.ends_everywhere(&EVERY)),
         ("one byte", Tests::one_byte),
-        ("fetch lists", |tests| tests.by_hand(&FETCHES)),
-        ("rounds", |tests| tests.by_hand(&ROUNDS)),
+        ("fetch lists", Tests::fetches),
         ("lines when due", Tests::lines_when_due),
         ("reader gone", Tests::reader_gone),
         ("unreadable", Tests::unreadable),
         ("slow reader", Tests::slow_reader),
         ("long lists", Tests::long_lists),
         ("the longest line", Tests::longest_line),
-        ("two lines of one command", Tests::two_lines),
         ("long jobs in cuts", Tests::long_in_cuts),
         ("refused far", Tests::refused_far),
         ("straddling", Tests::straddling),

@@ -206,53 +206,6 @@ pub fn marks(rng: &mut Prng, code: &Code) -> Vec<bool> {
     marked
 }
 
-/// Marked places that hold no cycle, of kinds that take many rounds or few: chains inside two sections, and trees that are deep, scattered or wide.
-pub fn forest(rng: &mut Prng, code: &Code) -> Vec<bool> {
-    let (n, t) = (code.n, code.t);
-    let mut marked = vec![false; code.places()];
-    let kind = rng.below(6);
-    if kind < 2 {
-        // a ring of two sections, from any of its places on, but for the last place or for more
-        let i = rng.below(n);
-        let j = (i + rng.between(1, n - 1)) % n;
-        let (first, mut ring) = (rng.below(t), vec![]);
-        let mut k = first;
-        loop {
-            ring.extend([i * t + k, j * t + k]);
-            k = (k + t - code.shifts[j] + code.shifts[i]) % t;
-            if k == first {
-                break;
-            }
-        }
-        let any = rng.between(1, ring.len() - 1);
-        let m = rng.pick(&[ring.len() - 1, ring.len() - 1, (ring.len() - 2).max(1), any]);
-        let from = rng.below(2);
-        (from..from + m).for_each(|x| marked[ring[x % ring.len()]] = true);
-        return marked;
-    }
-    // From a row over marks to rows that no mark has led to: in deep trees mostly on from the last row, in wide ones by all sections at once.
-    let (deep, wide) = (kind == 2 || kind == 5, kind >= 4);
-    let mut reached = vec![false; 2 * t];
-    for _ in 0..rng.between(1, 4) {
-        let mut rows = vec![rng.below(2 * t)];
-        reached[rows[0]] = true;
-        let steps = rng.pick(&[1, 3, 10, t, 4 * t]);
-        for _ in 0..rng.between(1, steps) {
-            let row = if deep && !rng.once_in(4) { rows[rows.len() - 1] } else { rng.pick(&rows) };
-            let any = rng.below(n);
-            for j in if wide { 0..n } else { any..any + 1 } {
-                let k = if row < t { row } else { (row - t + code.shifts[j]) % t };
-                if let Some(new) = code.meets[j * t + k].into_iter().find(|r| !reached[*r]) {
-                    reached[new] = true;
-                    rows.push(new);
-                    marked[j * t + k] = true;
-                }
-            }
-        }
-    }
-    marked
-}
-
 pub fn to_bytes(marked: &[bool]) -> Vec<u8> {
     let mut bytes = vec![0; marked.len().div_ceil(8)];
     (0..marked.len()).filter(|c| marked[*c]).for_each(|c| bytes[c / 8] |= 1 << (c % 8));

@@ -1,5 +1,4 @@
-//! The job and its sheet, from document 01 alone, and 02 for command 0D and the line `rounds`. Recovery, sealing, figures, fetch lists and rounds are those of
-//! `reference`.
+//! The job and its sheet, from document 01 alone, and 02 for command 0D. Recovery, sealing, figures and fetch lists are those of `reference`.
 
 use crate::reference::{self, Agree, Code};
 use fumizhaki::Plan;
@@ -63,29 +62,21 @@ impl Table {
         self.code.get_or_insert_with(|| Rc::new(Code::of(&plan))).clone()
     }
 
-    /// "After `recovered`, print `rounds` and the number of rounds after which no mark is left .. Loose and crossed blocks print no such line"
-    fn recover(&mut self) -> (&'static str, Vec<Line>) {
+    fn recover(&mut self) -> (&'static str, Line) {
         let code = self.code();
         let large = self.symbols.len() >= LARGE;
         match code.agree(&self.symbols, &self.marked) {
             Agree::One(whole) => {
                 let count = self.marked.iter().filter(|m| **m).count();
-                let rounds = code.rounds(&self.marked);
-                let word = match rounds {
-                    0 => "recovered 0",
-                    1 => ["recovered, one round", "recovered, large, one round"][usize::from(large)],
-                    k if k == self.plan.t => ["recovered, t rounds", "recovered, large, t rounds"][usize::from(large)],
-                    _ if code.most_on_a_row(&self.marked) > 2 => ["recovered, three on a row", "recovered, large, three on a row"][usize::from(large)],
-                    _ => ["recovered", "recovered, large"][usize::from(large)],
-                };
                 self.symbols = whole;
                 self.marked.fill(false);
-                (word, vec![Line::Text(format!("recovered {count}")), Line::Text(format!("rounds {rounds}"))])
+                let word = if count == 0 { "recovered 0" } else { ["recovered", "recovered, large"][usize::from(large)] };
+                (word, Line::Text(format!("recovered {count}")))
             }
-            Agree::Two(_) => (["loose", "loose, large"][usize::from(large)], vec![Line::Ring(code, self.marked.clone())]),
+            Agree::Two(_) => (["loose", "loose, large"][usize::from(large)], Line::Ring(code, self.marked.clone())),
             Agree::None(rows) => {
                 let line = numbers("crossed", &[&[rows.len()], &rows[..]].concat());
-                (["crossed", "crossed, large"][usize::from(large)], vec![Line::Text(line)])
+                (["crossed", "crossed, large"][usize::from(large)], Line::Text(line))
             }
         }
     }
@@ -116,8 +107,8 @@ fn numbers(word: &str, list: &[usize]) -> String {
     list.iter().fold(word.to_string(), |line, x| line + " " + &x.to_string())
 }
 
-/// A command on what stands on the desk: the lines that it writes, and in a word what it did; or the number that refuses it.
-fn perform(desk: &mut Option<Table>, first: u8, x: &[usize]) -> Result<(&'static str, Vec<Line>), (u8, &'static str)> {
+/// A command on what stands on the desk: the line that it writes, and in a word what it did; or the number that refuses it.
+fn perform(desk: &mut Option<Table>, first: u8, x: &[usize]) -> Result<(&'static str, Option<Line>), (u8, &'static str)> {
     let family = |made: reference::Made| {
         let word = if made.0 == 1 { "refused 1" } else { "refused 10" };
         Table::of(made).map_err(|number| (number, word))
@@ -133,7 +124,7 @@ fn perform(desk: &mut Option<Table>, first: u8, x: &[usize]) -> Result<(&'static
     if let Some(made) = made {
         let word = if desk.is_some() { "another plan" } else { "first plan" };
         *desk = Some(made?);
-        return Ok((word, vec![]));
+        return Ok((word, None));
     }
     // the commands that need one
     let Some(table) = desk else { return Err((9, "refused 9, no plan")) };
@@ -161,20 +152,23 @@ fn perform(desk: &mut Option<Table>, first: u8, x: &[usize]) -> Result<(&'static
         0x05 => {
             table.marked[x[0]..x[0] + x[1]].fill(true);
             if x[1] == 0 {
-                return Ok((if x[0] == places { "no marks at the end" } else { "no marks" }, vec![]));
+                return Ok((if x[0] == places { "no marks at the end" } else { "no marks" }, None));
             }
             None
         }
-        0x06 => return Ok(table.recover()),
+        0x06 => {
+            let (word, line) = table.recover();
+            return Ok((word, Some(line)));
+        }
         0x07 => Some(table.seal()),
         0x08 => Some(Line::Text(format!("symbol {} {}", x[0], table.symbols[x[0]]))),
         0x0D => {
             let (word, line) = table.fetch();
-            return Ok((word, vec![line]));
+            return Ok((word, Some(line)));
         }
         _ => Some(Line::Text(numbers("figures", &table.code().figures()))),
     };
-    Ok(("done", line.into_iter().collect()))
+    Ok(("done", line))
 }
 
 /// The sheet of a job.
@@ -206,9 +200,9 @@ pub fn sheet(job: &[u8]) -> Sheet {
             return sheet;
         }
         match perform(&mut desk, first, &operands) {
-            Ok((word, lines)) => {
+            Ok((word, line)) => {
                 sheet.events.push((first, word));
-                sheet.lines.extend(lines);
+                sheet.lines.extend(line);
             }
             Err((number, word)) => {
                 refused(&mut sheet, number, at, (first, word));

@@ -45,69 +45,6 @@ pub fn fixed() -> Vec<Vec<u8>> {
         }
     }
     jobs.extend((0..=255).map(|n| vec![0x0C, n, 0x09]));
-    jobs.extend(chains());
-    jobs.extend(rows());
-    jobs
-}
-
-/// A plan of n sections of t symbols, their shifts 0, 1, 2 and so on, mod t.
-fn rising_shifts(n: usize, t: usize) -> Vec<u8> {
-    let [low, high] = (t as u16).to_le_bytes();
-    let mut job = vec![0x01, n as u8, low, high];
-    for j in 0..n {
-        let [low, high] = ((j % t) as u16).to_le_bytes();
-        job.extend([0x02, j as u8, low, high]);
-    }
-    job
-}
-
-/// Runs of marks in the first two sections and in the last two, whose ring goes through all their places: without one of them it is a chain, which takes t
-/// rounds, the most that there are. Then recovery once more, without marks.
-fn chains() -> Vec<Vec<u8>> {
-    let run = |c: usize, m: usize| [&[0x05], &(c as u16).to_le_bytes()[..], &(m as u16).to_le_bytes()[..], &[0x06]].concat();
-    let mut jobs = vec![];
-    for t in [1, 2, 3, 4, 6, 7, 8, 15, 16, 17, 31, 32, 33, 63, 64, 65, 127, 128, 255, 256, 257, 511, 512, 513, 1_023, 1_024, 1_025, 1_365, 1_927, 2_047, 2_048] {
-        for n in [2, 3, 16] {
-            let mut job = rising_shifts(n, t);
-            let last = (n - 2) * t;
-            for (c, m) in [(0, 2 * t - 1), (0, 0), (1, 2 * t - 1), (last, 2 * t - 1), (last + 1, 2 * t - 1), (0, 2 * t - 2), (last, 2 * t - 2), (0, t), (t, t)] {
-                job.extend(run(c, m));
-            }
-            job.push(0x06);
-            jobs.push(job);
-        }
-    }
-    // every run of three sections; a loose one is left behind by a new plan
-    for t in 1..=6 {
-        for c in 0..3 * t {
-            let runs = (1..=3 * t - c).flat_map(|m| [rising_shifts(3, t), run(c, m)].concat());
-            jobs.push(runs.collect());
-        }
-    }
-    jobs
-}
-
-/// All places of one row marked, of two rows, and of three: marks that are alone on their other rows, all settled in the first round, and marks that join the
-/// rows.
-fn rows() -> Vec<Vec<u8>> {
-    let mut jobs = vec![];
-    for (n, t) in [(3, 3), (3, 4), (4, 7), (5, 11), (32, 32)] {
-        let mut shifts = [0; 32];
-        (0..n).for_each(|j| shifts[j] = j as u16);
-        let code = Code::of(&Plan { n, t, shifts });
-        for first in 0..2 * t {
-            let mut job = vec![];
-            for second in first..2 * t {
-                for third in if n == 3 { second..2 * t } else { second..second + 1 } {
-                    job.extend(rising_shifts(n, t));
-                    let on_rows = (0..n * t).filter(|c| code.meets[*c].iter().any(|r| [first, second, third].contains(r)));
-                    on_rows.for_each(|c| job.extend([0x04, c as u8, (c >> 8) as u8]));
-                    job.push(0x06);
-                }
-            }
-            jobs.push(job);
-        }
-    }
     jobs
 }
 
@@ -275,9 +212,6 @@ impl Writer<'_> {
             for _ in 0..self.rng.below(3) {
                 self.round();
             }
-            if self.size > 2 || self.rng.once_in(3) {
-                self.forest();
-            }
         }
         if self.size < 2 && self.rng.once_in(200) {
             let commands = self.rng.between(1_000, 8_000);
@@ -340,31 +274,6 @@ impl Writer<'_> {
             self.put(0x06, &[]);
             self.put(0x08, &[c]);
         }
-    }
-
-    /// Marks that hold no ring, in a block that is sealed, so that it is recovered and its rounds told; then recovery without marks, or with a few.
-    fn forest(&mut self) {
-        for _ in 0..self.rng.below(3) {
-            let (c, v) = (self.place(), self.rng.below(256));
-            self.put(0x03, &[c, v]);
-        }
-        self.put(0x07, &[]);
-        let marked = cases::forest(self.rng, &Code::of(&self.plan));
-        self.marks(&marked);
-        self.put(0x06, &[]);
-        match self.rng.below(4) {
-            0 => self.put(0x06, &[]),
-            1 => {
-                let c = self.place();
-                self.put(0x04, &[c]);
-                let c = self.place();
-                self.put(0x04, &[c]);
-                self.put(0x06, &[]);
-            }
-            _ => (),
-        }
-        let c = self.place();
-        self.put(0x08, &[c]);
     }
 
     /// What stands on the fetch list of these marks is set, and then recovery is tried again: a block that was loose is recovered.

@@ -496,67 +496,6 @@ impl Code {
         groups
     }
 
-    /// The marks of the row that has the most of them.
-    pub fn most_on_a_row(&self, marked: &[bool]) -> usize {
-        let mut left = vec![0; self.rows()];
-        (0..self.places()).filter(|c| marked[*c]).flat_map(|c| self.meets[c]).for_each(|r| left[r] += 1);
-        left.into_iter().max().unwrap()
-    }
-
-    // -- rounds of marks that hold no cycle, for all sizes
-
-    /// The rows that can be come to from `start`, nearest first, each with the mark that leads there (no place for `start`) and the number of marks on the way.
-    fn ways_from(&self, start: usize, on_rows: &OnRows) -> Vec<(usize, usize, usize)> {
-        let (mut ways, mut at) = (vec![(start, self.places(), 0)], 0);
-        while at < ways.len() {
-            let (row, by, marks) = ways[at];
-            for c in on_rows.at(row).iter().filter(|c| **c != by) {
-                let [top, bottom] = self.meets[*c];
-                ways.push((if top == row { bottom } else { top }, *c, marks + 1));
-            }
-            at += 1;
-        }
-        ways
-    }
-
-    /// How many marks the longest way has that goes from row to row and over no mark twice: the row farthest from any other is an end of it.
-    fn longest_way(&self, on_rows: &OnRows) -> usize {
-        let (mut reached, mut longest) = (vec![false; self.rows()], 0);
-        for start in 0..self.rows() {
-            if !reached[start] {
-                let ways = self.ways_from(start, on_rows);
-                ways.iter().for_each(|way| reached[way.0] = true);
-                let end = ways[ways.len() - 1].0;
-                longest = longest.max(self.ways_from(end, on_rows).last().unwrap().2);
-            }
-        }
-        longest
-    }
-
-    /// "In one round, every mark that is alone on one of its rows at the round's start is settled": "the number of rounds after which no mark is left". Each is
-    /// a pass over all places, by the marks of every row as they stood when it began.
-    pub fn rounds(&self, marked: &[bool]) -> usize {
-        let (mut before, mut rounds) = (marked.to_vec(), 0);
-        while before.contains(&true) {
-            let mut left = vec![0u32; self.rows()];
-            for c in (0..self.places()).filter(|c| before[*c]) {
-                self.meets[c].iter().for_each(|r| left[*r] += 1);
-            }
-            let after: Vec<bool> = (0..self.places()).map(|c| before[c] && self.meets[c].iter().all(|r| left[*r] != 1)).collect();
-            assert!(after != before, "the reference counts rounds of marks that hold a cycle");
-            before = after;
-            rounds += 1;
-        }
-        // "It is at most t and at most the number of marks; without marks it is 0."
-        let marks: Vec<usize> = (0..self.places()).filter(|c| marked[*c]).collect();
-        assert!(rounds <= self.t && rounds <= marks.len(), "the reference counts {rounds} rounds of {} marks, t {}", marks.len(), self.t);
-        assert_eq!(rounds == 0, marks.is_empty(), "the reference counts no round of marks, or one without");
-        // a round takes both ends off every longest way
-        let longest = self.longest_way(&OnRows::of(self, &marks));
-        assert_eq!(rounds, longest.div_ceil(2), "the reference's rounds are not half of the longest way");
-        rounds
-    }
-
     // -- the answers, each in every way that its size allows
 
     /// "List those marked places that are the lowest of some ring of marked places, rising."

@@ -4,13 +4,12 @@ use lib.ListN.{length-set}
 use mathlib.Core.Path.{refl}
 use native.Mathlib.Omega.{arith}
 use Rattle.tables.specs.Picture.{counts}
-use Rattle.queue.specs.RowQueue.{head_long}
-use Rattle.peel.specs.Peels.{head_tally, head_one, steps_over, count_lt, count_long, rest_room, steps}
+use Rattle.peel.specs.Peels.{head_long, head_tally, head_one, steps_over, count_lt, count_long, rest_room, steps}
 use Rattle.peel.proofs.step_stored.Statement.{statement}
 use Rattle.peel.proofs.step_stored.Tie as tie
 
 row-at-requires : tie.Need-row-at-requires
-row-at-requires c κs = head_long c.before.before.before.before.before.before.before.requires.0.rows c.before.before.before.before.before.before.before.requires.1
+row-at-requires c κs = head_long c.before.before.before.before.before.before.before.requires.0 c.before.before.before.before.before.before.before.requires.1
 
 slice-read-if1 : tie.Need-slice-read-if1
 slice-read-if1 c = head_tally c.before.before.before.before.before.before.before.before.before.before.requires.0 c.before.before.before.before.before.before.before.before.before.before.requires.1 c.before.before.row_at.ensures

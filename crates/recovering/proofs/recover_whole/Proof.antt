@@ -1,28 +1,16 @@
 -- `recover_whole` meets its contract. Assumes nothing.
 use native.Mathlib.Omega.{arith}
-use Rattle.blocks.specs.RecoverLaws.{loose_within, crossed_within, recovered_forest, on_recovered, on_loose, on_crossed, by_success, by_loose, by_crossed}
+use Rattle.blocks.specs.RecoverLaws.{loose_within, crossed_within, on_recovered, on_loose, on_crossed, by_success, by_loose, by_crossed}
 use Rattle.lines.proofs.LinesLaws.{wrote_at, wrote_front}
-use Rattle.pieces.specs.PiecesLaws.{appends_both}
 use borrow.Author.Rules.{rules}
 use Rattle.recovering.proofs.recover_whole.Statement.{statement}
 use Rattle.recovering.proofs.recover_whole.Tie as tie
 
-rounds-requires : tie.Need-rounds-requires
-rounds-requires c κs =
-    let p = c.before.before.before.before.before.before.before.before.before.before.before.before.before.before.before.before.before.before.requires in
-    ((p.0.good, p.0.marks_long, p.0.spare), (recovered_forest _ _ _ _ p.0 p.2 c.before.before.before.before.before.before.before.before.recover.ensures (by_success _ _ _ _ p.0 p.2 c.before.before.before.before.before.before.before.before.recover.ensures c.before.before.before.number.ensures c.before.if1.true), c.before.before.before.before.before.before.before.before.before.before.before.before.marked.ensures))
-
-rounds-line-requires : tie.Need-rounds-line-requires
-rounds-line-requires c κs =
-    let p = c.before.before.before.before.before.before.before.before.before.before.before.before.before.before.before.before.before.before.before.before.before.before.before.before.before.before.before.before.requires in
-    let l = c.before.before.before.recovered_line.ensures in
-    omega (arith, l.0.long, l.1, p.1)
-
 returns : tie.Need-returns
 returns c =
-    let p = c.before.before.before.before.before.before.before.before.before.before.before.before.before.before.before.before.before.before.before.before.before.before.before.before.before.before.before.before.before.before.before.requires in
-    let e = wrote_at (appends_both c.before.before.before.before.before.before.recovered_line.ensures.0 c.before.before.rounds-line.ensures) in
-    (on_recovered _ _ _ _ p.0 p.2 c.before.before.before.before.before.before.before.before.before.before.before.before.before.before.before.before.before.before.before.before.before.recover.ensures (by_success _ _ _ _ p.0 p.2 c.before.before.before.before.before.before.before.before.before.before.before.before.before.before.before.before.before.before.before.before.before.recover.ensures c.before.before.before.before.before.before.before.before.before.before.before.before.before.before.before.before.number.ensures c.before.before.before.before.before.before.before.before.before.before.before.before.before.before.if1.true) c.before.before.before.before.before.before.before.before.before.before.before.before.before.before.before.before.before.before.before.before.before.before.before.before.before.marked.ensures c.before.before.before.before.before.before.before.before.before.before.before.before.rounds.ensures c.before.before.before.before.before.before.before.before.before.before.clear-bytes.ensures e.text_stands, wrote_front e)
+    let p = c.before.before.before.before.before.before.before.before.before.before.before.before.before.before.before.before.before.before.before.before.before.before.before.before.before.requires in
+    let e = wrote_at c.before.before.recovered_line.ensures in
+    (on_recovered _ _ _ _ p.0 p.2 c.before.before.before.before.before.before.before.before.before.before.before.before.before.before.before.recover.ensures (by_success _ _ _ _ p.0 p.2 c.before.before.before.before.before.before.before.before.before.before.before.before.before.before.before.recover.ensures c.before.before.before.before.before.before.before.before.before.before.number.ensures c.before.before.before.before.before.before.before.before.if1.true) c.before.before.before.before.before.before.before.before.before.before.before.before.before.before.before.before.before.before.before.marked.ensures c.before.before.before.before.before.before.clear-bytes.ensures e.text_stands, wrote_front e)
 
 loose-line-requires : tie.Need-loose-line-requires
 loose-line-requires c κs =
@@ -54,10 +42,8 @@ recover-whole-spec =
     (λ c κs. search rules)
     (λ c κs. search rules)
     (λ c κs. search rules)
-    rounds-requires
     (λ c κs. search rules)
     (λ c κs. search rules)
-    rounds-line-requires
     (λ c. search rules)
     (λ c. search rules)
     (λ c. search rules)

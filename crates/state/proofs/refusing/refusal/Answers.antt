@@ -22,10 +22,6 @@ pub returns-in-MarkRun : goal.returns-in-MarkRun
 unfolding refusal_of
 returns-in-MarkRun c = refusal_by c.args.planned c.args.plan c.in-MarkRun.is c.run.ensures
 
-pub returns-in-Recover : goal.returns-in-Recover
-unfolding refusal_of
-returns-in-Recover c = refusal_by c.args.planned c.args.plan c.in-Recover.is c.no_plan_lem.ensures
-
 pub returns-in-Seal : goal.returns-in-Seal
 unfolding refusal_of
 returns-in-Seal c = refusal_by c.args.planned c.args.plan c.in-Seal.is c.no_plan-in-Seal.ensures
@@ -41,6 +37,3 @@ returns-in-Figures c = refusal_by c.args.planned c.args.plan c.in-Figures.is c.n
 pub returns-in-Fetch : goal.returns-in-Fetch
 unfolding refusal_of
 returns-in-Fetch c = refusal_by c.args.planned c.args.plan c.in-Fetch.is c.no_plan-in-Fetch.ensures
-
-pub returns-in_default : goal.returns-in_default
-returns-in_default c = λ s e f. absurd (true≢false (sym (tag_makes _ c.in_default.is) ∙ c.requires))
