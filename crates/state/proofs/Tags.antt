@@ -1,47 +1,43 @@
--- What the last arm `_` of a match on a command is told: the command's tag is one of those that no arm names.
+-- A command by the variants that it is not: what is left makes a plan, or makes none.
 -- Main results: tag_makes, tag_makes_none.
-use mathlib.Core.Path.{◌≡◌, refl}
-use mathlib.Core.Logic.{◌⊎◌, inl, inr, ⊎_elim}
-use mathlib.Core.Bool.{true, false, not}
-use mathlib.Core.List.{List, [], ◌∷◌}
-use Prim.Native.Nat.{ℕ}
-use lib.Dec.{T}
-use denote.Enum.Declared.{declared, tag_of}
-use mir.Val.{has_key}
-use types.Run.{OneOf, miss}
-use Rattle.commands.specs.contracts.Command.{enum}
+use Rattle.std.specs.Prelude.{◌≡◌, refl, true, false, ℕ}
 use Rattle.commands.specs.declared.Command.{Command}
 use Rattle.commands.specs.declared.Command.TheVariants.{NewPlan, SetShift, SetSymbol, MarkOne, MarkRun, Recover, Seal, Show, Figures, Straight, Powers, Ruler, Fetch}
 use Rattle.state.specs.Refusing.{makes_plan}
 
-abbrev tag : Command → ℕ
-tag c = tag_of (declared enum) c
-
--- the tags of the commands that make a plan, and of the others
-abbrev makers : List ℕ
-makers = 0 ∷ 9 ∷ 10 ∷ 11 ∷ []
-
-abbrev others : List ℕ
-others = 1 ∷ 2 ∷ 3 ∷ 4 ∷ 5 ∷ 6 ∷ 7 ∷ 8 ∷ 12 ∷ []
-
-apart : (c : Command) → ((makes_plan c ≡ true) × T (not (has_key others (tag c)))) ⊎ ((makes_plan c ≡ false) × T (not (has_key makers (tag c))))
+-- none of the commands that make no plan
+pub tag_makes : (c : Command) → ((j p : ℕ) → c ≡ SetShift j p → ⊥) → ((k v : ℕ) → c ≡ SetSymbol k v → ⊥) → ((k : ℕ) → c ≡ MarkOne k → ⊥)
+    → ((k m : ℕ) → c ≡ MarkRun k m → ⊥) → (c ≡ Recover → ⊥) → (c ≡ Seal → ⊥) → ((k : ℕ) → c ≡ Show k → ⊥) → (c ≡ Figures → ⊥) → (c ≡ Fetch → ⊥)
+    → makes_plan c ≡ true
 unfolding makes_plan
-apart (NewPlan n t) = inl (refl, tt)
-apart (SetShift j p) = inr (refl, tt)
-apart (SetSymbol c v) = inr (refl, tt)
-apart (MarkOne c) = inr (refl, tt)
-apart (MarkRun c m) = inr (refl, tt)
-apart Recover = inr (refl, tt)
-apart Seal = inr (refl, tt)
-apart (Show c) = inr (refl, tt)
-apart Figures = inr (refl, tt)
-apart (Straight n t) = inl (refl, tt)
-apart (Powers n t q) = inl (refl, tt)
-apart (Ruler n) = inl (refl, tt)
-apart Fetch = inr (refl, tt)
+tag_makes (NewPlan n t) _ _ _ _ _ _ _ _ _ = refl
+tag_makes (SetShift j p) h _ _ _ _ _ _ _ _ = absurd (h j p refl)
+tag_makes (SetSymbol k v) _ h _ _ _ _ _ _ _ = absurd (h k v refl)
+tag_makes (MarkOne k) _ _ h _ _ _ _ _ _ = absurd (h k refl)
+tag_makes (MarkRun k m) _ _ _ h _ _ _ _ _ = absurd (h k m refl)
+tag_makes Recover _ _ _ _ h _ _ _ _ = absurd (h refl)
+tag_makes Seal _ _ _ _ _ h _ _ _ = absurd (h refl)
+tag_makes (Show k) _ _ _ _ _ _ h _ _ = absurd (h k refl)
+tag_makes Figures _ _ _ _ _ _ _ h _ = absurd (h refl)
+tag_makes (Straight n t) _ _ _ _ _ _ _ _ _ = refl
+tag_makes (Powers n t q) _ _ _ _ _ _ _ _ _ = refl
+tag_makes (Ruler n) _ _ _ _ _ _ _ _ _ = refl
+tag_makes Fetch _ _ _ _ _ _ _ _ h = absurd (h refl)
 
-pub tag_makes : (c : Command) → OneOf makers (tag c) → makes_plan c ≡ true
-tag_makes c h = ⊎_elim (λ p. p.0) (λ p. absurd (miss makers (tag c) p.1 h)) (apart c)
-
-pub tag_makes_none : (c : Command) → OneOf others (tag c) → makes_plan c ≡ false
-tag_makes_none c h = ⊎_elim (λ p. absurd (miss others (tag c) p.1 h)) (λ p. p.0) (apart c)
+-- none of those that make one
+pub tag_makes_none : (c : Command) → ((n t : ℕ) → c ≡ NewPlan n t → ⊥) → ((n t : ℕ) → c ≡ Straight n t → ⊥) → ((n t q : ℕ) → c ≡ Powers n t q → ⊥)
+    → ((n : ℕ) → c ≡ Ruler n → ⊥) → makes_plan c ≡ false
+unfolding makes_plan
+tag_makes_none (NewPlan n t) h _ _ _ = absurd (h n t refl)
+tag_makes_none (SetShift j p) _ _ _ _ = refl
+tag_makes_none (SetSymbol k v) _ _ _ _ = refl
+tag_makes_none (MarkOne k) _ _ _ _ = refl
+tag_makes_none (MarkRun k m) _ _ _ _ = refl
+tag_makes_none Recover _ _ _ _ = refl
+tag_makes_none Seal _ _ _ _ = refl
+tag_makes_none (Show k) _ _ _ _ = refl
+tag_makes_none Figures _ _ _ _ = refl
+tag_makes_none (Straight n t) _ h _ _ = absurd (h n t refl)
+tag_makes_none (Powers n t q) _ _ h _ = absurd (h n t q refl)
+tag_makes_none (Ruler n) _ _ _ h = absurd (h n refl)
+tag_makes_none Fetch _ _ _ _ = refl

@@ -17,6 +17,17 @@ mark-requires c =
 pub shape_of-marks-then-not-mark : goal.shape_of-marks-then-not-mark
 shape_of-marks-then-not-mark c = c.mark.auto.marks ∙ c.loop-j.invariant.1
 
+pub returns-then-not-mark : goal.returns-then-not-mark
+returns-then-not-mark c =
+    row_stops _ c.mark.ensures c.requires.1 c.loop-j-test.true c.loop-j.invariant.2 (not_from_false _ c.if-not-mark.true)
+
+pub loop-j-preserved : goal.loop-j-preserved
+loop-j-preserved c = (
+  search rules,
+  c.mark.auto.marks ∙ c.loop-j.invariant.1,
+  row_more c.mark.ensures c.requires.1 c.loop-j-test.true c.loop-j.invariant.2 (not_from_true _ c.if-not-mark.false),
+)
+
 pub shape_of-marks : goal.shape_of-marks
 shape_of-marks c = c.loop-j.invariant.1
 

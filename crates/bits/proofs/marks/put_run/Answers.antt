@@ -12,12 +12,6 @@ loop-at-init c =
     let known = c.slice_known-1.given in
     (omega arith, omega arith, rw e (marked_none a.marks.now a.start a.bit (λ i. omega (arith, known i))))
 
-pub loop-at-preserved : goal.loop-at-preserved
-loop-at-preserved c =
-    let l = c.loop-at in
-    let m = c.put_some_lem in
-    (omega arith, omega arith, marked_next l.invariant.0 (omega arith) l.invariant.2 m.ensures.1)
-
 pub shape_of-marks : goal.shape_of-marks
 shape_of-marks c = c.loop-at.invariant.2.long
 

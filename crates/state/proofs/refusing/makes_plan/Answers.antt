@@ -19,3 +19,8 @@ returns-in-Powers c = sym (ap makes_plan c.in-Powers.is)
 pub returns-in-Ruler : goal.returns-in-Ruler
 unfolding makes_plan
 returns-in-Ruler c = sym (ap makes_plan c.in-Ruler.is)
+
+pub returns-in_default : goal.returns-in_default
+returns-in_default c =
+    let d = c.in_default in
+    sym (tag_makes_none _ d.not-NewPlan d.not-Straight d.not-Powers d.not-Ruler)

@@ -22,6 +22,10 @@ pub returns-in-MarkRun : goal.returns-in-MarkRun
 unfolding refusal_of
 returns-in-MarkRun c = refusal_by c.args.planned c.args.plan c.in-MarkRun.is c.run.ensures
 
+pub returns-in-Recover : goal.returns-in-Recover
+unfolding refusal_of
+returns-in-Recover c = refusal_by c.args.planned c.args.plan c.in-Recover.is c.no_plan.ensures
+
 pub returns-in-Seal : goal.returns-in-Seal
 unfolding refusal_of
 returns-in-Seal c = refusal_by c.args.planned c.args.plan c.in-Seal.is c.no_plan-in-Seal.ensures
@@ -37,3 +41,9 @@ returns-in-Figures c = refusal_by c.args.planned c.args.plan c.in-Figures.is c.n
 pub returns-in-Fetch : goal.returns-in-Fetch
 unfolding refusal_of
 returns-in-Fetch c = refusal_by c.args.planned c.args.plan c.in-Fetch.is c.no_plan-in-Fetch.ensures
+
+pub returns-in_default : goal.returns-in_default
+returns-in_default c =
+    let d = c.in_default in
+    let m = tag_makes _ d.not-SetShift d.not-SetSymbol d.not-MarkOne d.not-MarkRun d.not-Recover d.not-Seal d.not-Show d.not-Figures d.not-Fetch in
+    λ s e f. absurd (true≢false (sym m ∙ c.requires))
