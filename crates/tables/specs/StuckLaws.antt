@@ -1,5 +1,5 @@
 -- Erasures of which no row has exactly one: why they hold a cycle, and when their rows have none or two.
--- Main results: stuck_cycle (they are no forest), twos (one place more than a forest, and stuck: every row has none or two),
+-- Main results: leaf and stuck_cycle (a forest has a row with one; they are no forest), twos (one place more than a forest, and stuck: every row has none or two),
 -- cycle_survives (settling takes no place of a cycle), top_next, bottom_next and last_next (a cycle read off the sums of its rows).
 use Rattle.std.specs.Prelude.{◌≡◌, refl, ◌≢◌, ◌⊎◌, List, [], ◌∷◌, eqb}
 use Rattle.std.proofs.Common.{sym, ◌∙◌, ap, ap₂, subst, ⊎_elim, arith, eq-eqb, ne_eqb}
@@ -13,7 +13,7 @@ use Rattle.std.proofs.Math.Decide.{ℕ_discrete}
 use Rattle.std.proofs.Math.ListN.{length}
 use Rattle.math.specs.Members.{◌∈◌, without, Rising, Distinct, distinct_none, distinct_more}
 use Rattle.math.specs.MembersLaws.{by_place, dec_in, length_without, without_∈, rising_distinct}
-use Rattle.math.specs.Pigeonhole.{get_or_∈, ∈_get_or, distinct_covers}
+use Rattle.math.specs.Pigeonhole.{get_or_∈, ∈_get_or, distinct_covers, find_in}
 use Rattle.math.specs.Xor.{◌⊕◌, ⊕_zero, ⊕_self, ⊕_self_left}
 use Rattle.math.specs.Sums.{sum_over, only}
 use Rattle.math.specs.SumsLaws.{only_true, only_false, sum_over_le, sum_over_two}
@@ -58,6 +58,14 @@ module _ (L : Layout) (ok : Valid L) where
   -- stuck erasures are no forest
   pub stuck_cycle : {E : List ℕ} → Stuck L E → 0 < length E → ¬ (Forest L E)
   stuck_cycle {E} s h f = omega (arith, forest_touched L ok f (get_or_∈ E h), stuck_touched E s)
+
+  -- a forest has a row with exactly one place
+  pub leaf : {E : List ℕ} → Forest L E → 0 < length E → (r : ℕ) × (r < 2 * L.t) × (length (on_row L E r) ≡ 1)
+  unfolding Stuck
+  leaf {E} f h = elim (find_in (λ r. ℕ_discrete (length (on_row L E r)) 1) (rows L)) [
+    | inl t ↦ (t.0, rows_∈ L t.1, t.2)
+    | inr none ↦ absurd (stuck_cycle (λ r g. none r (∈_rows L g)) h f)
+  ]
 
   pub stuck_none : {E F : List ℕ} → Rising F → Forest L F → Rising E → ((c : ℕ) → c ∈ E → c ∈ F) → Stuck L E → E ≡ []
   stuck_none {E = []} rf f re sub s = refl
