@@ -59,7 +59,7 @@ pub fn hung(status: ExitStatus) -> bool {
 
 /// FUMIZHAKI_DESK, else the one that is built in this repository.
 pub fn path() -> PathBuf {
-    let built = || PathBuf::from(env!("CARGO_MANIFEST_DIR")).join("../../target/bin/desk");
+    let built = || PathBuf::from(env!("CARGO_MANIFEST_DIR")).join("../../crates/desk/out/desk");
     std::env::var_os("FUMIZHAKI_DESK").map_or_else(built, PathBuf::from)
 }
 

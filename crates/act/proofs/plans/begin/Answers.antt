@@ -29,8 +29,6 @@ returns c =
     let v = c.args.block.now in
     let m = c.args.marks.now in
     let k = c.args.plan.n * c.args.plan.t in
-    let x = c.clear_bytes in
-    let y = c.clear_bytes-2 in
     let a = places_fit _ p.0 v p.1 in
     let b = bytes_fit _ p.0 m p.2 in
-    begun _ v m _ _ p.0 (part_long k v x.new.0 a x.auto.0 ∙ p.1) (part_long ((k + 7) / 8) m y.new.0 b y.auto.0 ∙ p.2) (cleared_front k v x.new.0 a x.ensures) (cleared_front ((k + 7) / 8) m y.new.0 b y.ensures) (part_rest k v x.new.0 a x.auto.0) (part_rest ((k + 7) / 8) m y.new.0 b y.auto.0)
+    begun _ v m _ _ p.0 (part_long k v c.clear_bytes.new.s a c.clear_bytes.auto.s ∙ p.1) (part_long ((k + 7) / 8) m c.clear_bytes-2.new.s b c.clear_bytes-2.auto.s ∙ p.2) (cleared_front k v c.clear_bytes.new.s a c.clear_bytes.ensures) (cleared_front ((k + 7) / 8) m c.clear_bytes-2.new.s b c.clear_bytes-2.ensures) (part_rest k v c.clear_bytes.new.s a c.clear_bytes.auto.s) (part_rest ((k + 7) / 8) m c.clear_bytes-2.new.s b c.clear_bytes-2.auto.s)

@@ -18,4 +18,6 @@ pub returns-in-Ruler : goal.returns-in-Ruler
 returns-in-Ruler c = makes_by c.in-Ruler.is c.ruler.ensures (ruler_makes _)
 
 pub returns-in_default : goal.returns-in_default
-returns-in_default c = absurd (true≢false (sym c.requires ∙ tag_makes_none _ c.in_default.is))
+returns-in_default c =
+    let d = c.in_default in
+    absurd (true≢false (sym c.requires ∙ tag_makes_none _ d.not-NewPlan d.not-Straight d.not-Powers d.not-Ruler))

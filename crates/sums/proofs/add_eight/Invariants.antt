@@ -1,0 +1,11 @@
+-- `sums::add_eight` meets its contract. The invariant: the first i sums are made, the others are as they were.
+use Prim.Native.Nat.{◌≤◌, ◌-◌}
+use Rattle.sums.specs.SumLaws.{added, straight}
+use Rattle.tables.specs.Sweeps.{MappedTo}
+use Rattle.sums.proofs.add_eight.Given as goal
+
+abbrev pub invariant-loop-i : goal.invariant-loop-i
+invariant-loop-i l = (l.i ≤ l.t) × MappedTo (added (straight l.t l.sections) 8) l.initial.top l.i l.top
+
+abbrev pub decreases-loop-i : goal.decreases-loop-i
+decreases-loop-i l = l.t - l.i
