@@ -1,4 +1,4 @@
-//! Links the static library that `rt staticlib capi` writes. FUMIZHAKI_LIB_DIR names another folder that holds it.
+//! Links the static library that `rt lib` in crates/capi writes. FUMIZHAKI_LIB_DIR names another folder that holds it.
 use std::path::PathBuf;
 
 fn main() {
