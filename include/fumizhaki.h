@@ -1,7 +1,7 @@
 /*
  * Fumizhaki: recovery of erased symbols in the blocks of a card recorder.
  *
- * The library is target/staticlib/libcapi.a, for x86-64 Linux, made by `rt staticlib capi`. It is proved: what
+ * The library is crates/capi/out/libcapi.a, for x86-64 Linux, made by `rt lib` in crates/capi. It is proved: what
  * each function promises is its contract in crates/capi/src/lib.rt, with the definitions of
  * crates/numbers/specs/Entries.antt, and Meanings.antt beside it says it number by number. The declarations below are
  * written by hand beside that crate, and the comments say the same in words; numbers and rules are document 01's.
@@ -36,8 +36,8 @@
  * lengths and its marks, and nothing outside what it is lent is read or written.
  *
  * No function keeps a state, allocates memory or waits: calls on different buffers may run at the same time in
- * different threads. As compiled now, fumizhaki_recover takes about 34 KB of stack, fumizhaki_encode about 43 KB
- * and fumizhaki_fetch about 8 KB.
+ * different threads. As compiled with rattle-kit-5b, fumizhaki_recover takes about 34 KB of stack, fumizhaki_encode
+ * about 43 KB and fumizhaki_fetch about 8 KB.
  */
 #ifndef FUMIZHAKI_H
 #define FUMIZHAKI_H
