@@ -26,7 +26,6 @@ loop-j-init c = gathering_full c.requires c.full-j.ensures refl c.copy_bytes.ens
 pub bounds-runs-j : goal.bounds-runs-j
 bounds-runs-j c = omega (arith, c.loop-j.invariant.0.of.long)
 
--- the parts of a turn lie within
 pub loop-j-preserved : goal.loop-j-preserved
 loop-j-preserved c =
     let run = c.wide-run.ensures in
@@ -37,3 +36,27 @@ shape_of-message c = gathering_long c.loop-j.invariant.0 c.loop-j.invariant.1 �
 
 pub returns : goal.returns
 returns c = gathering_end c.loop-j.invariant.0 c.loop-j.invariant.1 c.loop-j-test.false
+
+pub overflow_add-next : goal.overflow_add-next
+overflow_add-next c =
+    let i = c.loop-j.invariant in
+    let g = gathering_room i.0 i.1 c.loop-j-test.true in
+    let e = c.wide-run.ensures in
+    let l : length c.loop-j.message ≡ length c.args.message.now = gathering_long i.0 i.1 ∙ whole_message i.0 ∙ sym (whole_message c.requires) in
+    omega arith
+
+pub slice_bounds-copy_bytes-end-in-loop-j : goal.slice_bounds-copy_bytes-end-in-loop-j
+slice_bounds-copy_bytes-end-in-loop-j c =
+    let i = c.loop-j.invariant in
+    let g = gathering_room i.0 i.1 c.loop-j-test.true in
+    let e = c.wide-run.ensures in
+    let l : length c.loop-j.message ≡ length c.args.message.now = gathering_long i.0 i.1 ∙ whole_message i.0 ∙ sym (whole_message c.requires) in
+    omega arith
+
+pub slice_bounds-copy_bytes-end-in-loop-j-2 : goal.slice_bounds-copy_bytes-end-in-loop-j-2
+slice_bounds-copy_bytes-end-in-loop-j-2 c =
+    let i = c.loop-j.invariant in
+    let g = gathering_room i.0 i.1 c.loop-j-test.true in
+    let e = c.wide-run.ensures in
+    let l : length c.loop-j.message ≡ length c.args.message.now = gathering_long i.0 i.1 ∙ whole_message i.0 ∙ sym (whole_message c.requires) in
+    omega arith

@@ -26,7 +26,6 @@ loop-j-init c = filling_full c.requires c.full-j.ensures refl c.copy_bytes.ensur
 pub bounds-runs-j : goal.bounds-runs-j
 bounds-runs-j c = omega (arith, c.loop-j.invariant.0.of.long)
 
--- the parts of a turn lie within
 pub loop-j-preserved : goal.loop-j-preserved
 loop-j-preserved c =
     let run = c.wide-run.ensures in
@@ -37,3 +36,43 @@ shape_of-block c = filling_long c.loop-j.invariant.0 c.loop-j.invariant.1 ∙ c.
 
 pub returns : goal.returns
 returns c = filling_end c.loop-j.invariant.0 c.loop-j.invariant.1 c.loop-j-test.false
+
+pub overflow_add-next : goal.overflow_add-next
+overflow_add-next c =
+    let i = c.loop-j.invariant in
+    let g = filling_room i.0 i.1 c.loop-j-test.true in
+    let e = c.wide-run.ensures in
+    let l : length c.loop-j.block ≡ length c.args.block.now = filling_long i.0 i.1 ∙ i.0.block_long ∙ sym c.requires.block_long in
+    omega arith
+
+pub slice_bounds-copy_bytes-end-in-loop-j : goal.slice_bounds-copy_bytes-end-in-loop-j
+slice_bounds-copy_bytes-end-in-loop-j c =
+    let i = c.loop-j.invariant in
+    let g = filling_room i.0 i.1 c.loop-j-test.true in
+    let e = c.wide-run.ensures in
+    let l : length c.loop-j.block ≡ length c.args.block.now = filling_long i.0 i.1 ∙ i.0.block_long ∙ sym c.requires.block_long in
+    omega arith
+
+pub slice_bounds-copy_bytes-end-in-loop-j-2 : goal.slice_bounds-copy_bytes-end-in-loop-j-2
+slice_bounds-copy_bytes-end-in-loop-j-2 c =
+    let i = c.loop-j.invariant in
+    let g = filling_room i.0 i.1 c.loop-j-test.true in
+    let e = c.wide-run.ensures in
+    let l : length c.loop-j.block ≡ length c.args.block.now = filling_long i.0 i.1 ∙ i.0.block_long ∙ sym c.requires.block_long in
+    omega arith
+
+pub slice_bounds-clear_bytes-count : goal.slice_bounds-clear_bytes-count
+slice_bounds-clear_bytes-count c =
+    let i = c.loop-j.invariant in
+    let g = filling_room i.0 i.1 c.loop-j-test.true in
+    let e = c.wide-run.ensures in
+    let l : length c.loop-j.block ≡ length c.args.block.now = filling_long i.0 i.1 ∙ i.0.block_long ∙ sym c.requires.block_long in
+    omega arith
+
+pub slice_bounds-clear_bytes-start : goal.slice_bounds-clear_bytes-start
+slice_bounds-clear_bytes-start c =
+    let i = c.loop-j.invariant in
+    let g = filling_room i.0 i.1 c.loop-j-test.true in
+    let e = c.wide-run.ensures in
+    let l : length c.loop-j.block ≡ length c.args.block.now = filling_long i.0 i.1 ∙ i.0.block_long ∙ sym c.requires.block_long in
+    omega arith
