@@ -19,6 +19,3 @@ slice_bounds-copy_bytes-end-2 c = omega (arith, c.requires, c.if-sheet-to.false)
 
 pub copy_bytes-requires : goal.copy_bytes-requires
 copy_bytes-requires c = let a = c.args in put_long a.line.now a.count a.sheet.now a.to c.requires.0 (omega (arith, c.requires, c.if-sheet-to.false))
-
-pub returns : goal.returns
-returns c = let a = c.args in (refl, refl, put_fits a.line.now a.count a.sheet.now a.to _ c.copy_bytes.new.1.0 c.requires.0 (omega (arith, c.requires, c.if-sheet-to.false)) c.copy_bytes.ensures)
