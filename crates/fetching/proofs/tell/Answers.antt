@@ -11,6 +11,14 @@ use Rattle.fetching.proofs.tell.Goals as goal
 pub overflow_mul-plan : goal.overflow_mul-plan
 overflow_mul-plan c = omega (arith, places_most _ c.requires.0.good)
 
+pub fetch_line-requires : goal.fetch_line-requires
+unfolding mark_bytes layout_of layout
+fetch_line-requires c =
+    let p = c.requires in
+    let most = places_most _ p.0.good in
+    let few = told_few p.0 _ p.1 c.fetch-answer.ensures c.count-count.ensures in
+    (p.2, omega (arith, p.0.long, p.1, c.fetch-answer.auto.list), most, omega (arith, few, most))
+
 pub returns : goal.returns
 returns c =
     let p = c.requires in
