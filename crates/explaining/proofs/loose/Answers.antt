@@ -7,3 +7,6 @@ returns-in_default c = loosens_forest (closed_none _ _ c.in_default.is c.require
 
 pub returns : goal.returns
 returns c = loosens_shown c.requires.lent c.show.ensures
+
+pub show-requires-clause-closing : goal.show-requires-clause-closing
+show-requires-clause-closing c = closed_at c.requires.lent c.in-At.is c.requires.closed
