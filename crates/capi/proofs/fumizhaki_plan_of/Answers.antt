@@ -1,0 +1,7 @@
+-- `fumizhaki_plan_of` meets its contract: the constructor's answer, numbered. Assumes nothing.
+use mathlib.Core.Path.{◌∙◌, ap}
+use Rattle.numbers.specs.Entries.{numbered}
+use Rattle.capi.proofs.fumizhaki_plan_of.Goals as goal
+
+pub returns : goal.returns
+returns c = c.number_made.ensures ∙ ap numbered c.of.ensures

@@ -1,0 +1,24 @@
+-- A call that is refused leaves everything as it was; one that passes is decided.
+use mathlib.Core.Path.{sym, ◌∙◌}
+use Rattle.promises.specs.Promises.{recover_lent}
+use Rattle.promises.proofs.Building.{recovers_refused}
+use Rattle.deciding.specs.Attempts.{call_given, call_decided}
+use Rattle.recovery.proofs.recover.Goals as goal
+
+pub decide-requires : goal.decide-requires
+unfolding recover_lent
+decide-requires c = call_given _ _ _ _ (sym c.check_call.ensures ∙ c.in-Pass.is)
+
+pub returns-in-Stop : goal.returns-in-Stop
+unfolding recover_lent
+returns-in-Stop c = recovers_refused _ _ _ _ (sym c.check_call.ensures ∙ c.in-Stop.is)
+
+pub shape_of-block : goal.shape_of-block
+shape_of-block c = c.decide.auto.block
+
+pub shape_of-witness : goal.shape_of-witness
+shape_of-witness c = c.decide.auto.witness
+
+pub returns-in-Pass : goal.returns-in-Pass
+unfolding recover_lent
+returns-in-Pass c = call_decided _ _ _ _ (sym c.check_call.ensures ∙ c.in-Pass.is) c.decide.ensures
