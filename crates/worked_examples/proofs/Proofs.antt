@@ -33,7 +33,7 @@ use Rattle.code.proofs.Laws.MarksLaws.{erasures_erased}
 use Rattle.code.proofs.Laws.Pairs.{zero_agrees}
 use Rattle.code.proofs.Laws.ParityCount.{parity_count}
 use Rattle.code.proofs.Laws.Distance.{distance_ruler, distance_other}
-use Rattle.worked_examples.specs.Examples.{job, straight, drum, three, equal, four, six_marks, five_marks, Specimens}
+use Rattle.worked_examples.specs.Examples.{RoundsSpecimen, job, straight, drum, three, equal, four, six_marks, five_marks, Specimens}
 use Rattle.worked_examples.specs.ProofTests.{every, every_below, every_two, once, closes, is_pair, is_next, numbers_from, is_ruler, same_pair, valid_layout, valid_by_test, codeword_by_test, agrees_by_test, erased_by_marks, forest_by_test, single, not_two, none, messages_by_test, cycle_by_test, pair_by_test, neighbours_by_test, ruler_by_test, unequal_by_test}
 
 -- a cycle of erasures on the zero block
@@ -353,7 +353,6 @@ specimens =
       five_marked = five_marked;
       five_count = ap length five_marked;
       recovered = recovered;
-      five_rounds = five_rounds;
       symbol = symbol;
       crossed = crossed;
       crossed_rows = crossed_rows;
@@ -369,3 +368,6 @@ specimens =
       figures_drum = figures_drum;
       loose_one = loose_one;
     }
+
+pub rounds_specimen : RoundsSpecimen
+rounds_specimen = record { five_rounds = five_rounds }

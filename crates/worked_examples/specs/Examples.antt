@@ -50,8 +50,6 @@ pub record Specimens : Type 0 where
   pub five_marked : erasures job five_marks ≡ 2 ∷ 7 ∷ 10 ∷ 16 ∷ 17 ∷ []
   pub five_count : length (erasures job five_marks) ≡ 5
   pub recovered : Single (Agrees job (erasures job five_marks) (set (replicate 21 0) 0 5))
-  -- 02, N5: "the sheet in 01 gains this line", `rounds 3`
-  pub five_rounds : Rounds job (erasures job five_marks) 3
   -- "symbol 17 5"
   pub symbol : at recovered.one 17 ≡ 5
   -- "crossed 1 0": no marks, symbol 0 of the recovered block is 6, "03 00 00 06"
@@ -79,3 +77,7 @@ pub record Specimens : Type 0 where
   -- "t 1, two marks: loose on the zero block": any n, any two places; each shift is below t, so it is 0
   pub loose_one : (n : ℕ) (shifts : List ℕ) → ((j : ℕ) → j < n → at shifts j ≡ 0) → (c d : ℕ) → c < d → d < n →
       TwoOrMore (Agrees (layout n 1 shifts) (c ∷ d ∷ []) (replicate n 0))
+
+-- beside the table: the rounds of the five marks (02, N5)
+pub record RoundsSpecimen : Type 0 where
+  pub five_rounds : Rounds job (erasures job five_marks) 3
