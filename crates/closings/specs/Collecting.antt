@@ -12,7 +12,8 @@ use Rattle.code.specs.FetchList.{FetchBits}
 use Rattle.code.specs.Laws.Forest.{Erased}
 use Rattle.code.proofs.Laws.MarksLaws.{erasures_erased, mark_bit, bits_none, bits_more}
 use Rattle.code.specs.Laws.Closings.{closings}
-use Rattle.code.proofs.Laws.Closings.{closings_exact, closings_fetch, rising_closings}
+use Rattle.code.proofs.Laws.Closings.{closings_exact, rising_closings}
+use Rattle.code.proofs.Laws.ClosingsFetch.{closings_fetch}
 use Rattle.bits.specs.Bits.{Marked}
 use Rattle.bits.specs.MarkedLaws.{marked_puts}
 use Rattle.tables.specs.Spots.{Stands}

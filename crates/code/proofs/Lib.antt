@@ -1,3 +1,4 @@
 pub mod FiguresOnce
 pub mod Laws
+pub mod Places
 pub mod Theorems

@@ -19,10 +19,11 @@ use Rattle.code.proofs.Laws.Balance
 use Rattle.code.proofs.Laws.Carrying
 use Rattle.code.proofs.Laws.ClosedForm
 use Rattle.code.specs.Laws.Closings.{closings}
-use Rattle.code.proofs.Laws.Closings
+use Rattle.code.proofs.Laws.ClosingsFetch
 use Rattle.code.proofs.Laws.CycleLaws
 use Rattle.code.proofs.Laws.Distance
 use Rattle.code.proofs.Laws.Fetched
+use Rattle.code.proofs.Laws.FewerLoose
 use Rattle.code.proofs.Laws.Matrix
 use Rattle.code.proofs.Laws.Pairs
 use Rattle.code.proofs.Laws.ParityCount
@@ -172,7 +173,7 @@ module _ (L : Layout) (ok : Valid L) where
 
   -- the fetch list (document 02, N2): all erasures have one
   pub fetch_list_some : (E : List ℕ) → Erased L E → (F : List ℕ) × FetchList L E F
-  fetch_list_some E er = (closings L E, Closings.closings_fetch L ok er)
+  fetch_list_some E er = (closings L E, ClosingsFetch.closings_fetch L ok er)
 
   -- with no erasures but those that it leaves, at most one codeword agrees
   pub fetched_never : {E F K : List ℕ} (v : List ℕ) → FetchList L E F → Erased L K → ((c : ℕ) → c ∈ K → (c ∈ E) × ¬ (c ∈ F)) → ¬ (TwoOrMore (Agrees L K v))
@@ -183,7 +184,7 @@ module _ (L : Layout) (ok : Valid L) where
   fewer_leave = Fetched.fewer_leave L ok
 
   pub fewer_loose : {E F : List ℕ} → FetchList L E F → Erased L E → (G : List ℕ) → length G < length F → TwoOrMore (Agrees L (less E G) (replicate (L.n * L.t) 0))
-  fewer_loose = Fetched.fewer_loose L ok
+  fewer_loose = FewerLoose.fewer_loose L ok
 
   -- the rounds (document 02, N5): erasures that are a forest have their number
   pub rounds_some : (E : List ℕ) → Erased L E → Forest L E → (k : ℕ) × Rounds L E k

@@ -10,8 +10,9 @@ use mathlib.Core.List.{List, [], ◌∷◌, ◌++◌}
 use Prim.Native.Nat.{ℕ, zero, suc, ◌+◌, ◌-◌, ◌*◌, ◌/◌, ◌%◌, ◌∣◌, ◌≤◌, ◌<◌}
 use Rattle.std.proofs.Math.Decide.{dec_le}
 use Rattle.std.proofs.Math.Nat.{mod-add-div', dvd_refl, dvd-zero, dvd_antisymm, dvd-add, dvd-sub, dvd-sub_iff_right, dvd-add_iff_left, pos_of_dvd_of_pos, le_of_dvd, dvd_of_mod-eq-zero, div-mul_cancel, mul-mod_right, mul-sub, zero-mod, dvd-mul_left}
-use Rattle.math.specs.Gcd.{IsGcd, euclid, gcd, gcd_all, gcd_all_is, gap, step_is}
-pub use Rattle.math.specs.Gcd.{gcd_is, gcd_zero_left}
+use Rattle.math.specs.Gcd.{IsGcd, euclid, gcd, gcd_all, gap}
+use Rattle.math.proofs.Gcd.{gcd_all_is, step_is}
+pub use Rattle.math.proofs.Gcd.{gcd_is, gcd_zero_left}
 use Rattle.math.specs.Members.{◌∈◌}
 use Rattle.math.proofs.Residues.{mod_cancel_left, below_multiples}
 

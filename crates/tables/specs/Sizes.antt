@@ -6,7 +6,7 @@ use Rattle.math.specs.MembersLaws.{up_to_∈, ∈_up_to}
 use Rattle.plan.specs.Layout.{layout}
 use Rattle.plan.specs.GoodPlan.{GoodPlan}
 use Rattle.code.specs.Places.{places}
-use Rattle.code.specs.Laws.MarksLaws.{places_all}
+use Rattle.code.proofs.Places.{places_all}
 
 pub layout_t : (n t : ℕ) (shifts : List ℕ) → (layout n t shifts).t ≡ t
 unfolding layout

@@ -1,29 +1,27 @@
 -- The proof of the specimen table, row by row, in the table's order; main result: specimens.
 -- What is about one plan is computed (ProofTests); parity places are counted by parity_count, distances given by the laws on them.
-use Rattle.std.specs.Prelude.{◌≡◌, refl, ◌≢◌, true, ◌||◌, List, [], ◌∷◌, map, ℕ, ◌-◌, ◌*◌, ◌%◌, ◌<◌, eqb, length, set, replicate}
-use Rattle.std.proofs.Common.{sym, ◌∙◌, ap, subst, inl, inr, mul-one, div-one, arith, eqb-true}
+use Rattle.std.specs.Prelude.{◌≡◌, refl, ◌||◌, List, [], ◌∷◌, map, ℕ, ◌-◌, ◌*◌, ◌%◌, ◌<◌, eqb, length, set, replicate}
+use Rattle.std.proofs.Common.{sym, ◌∙◌, ap, subst, inl, mul-one, div-one, arith, eqb-true}
 use Rattle.std.proofs.Math.Logic.{by_cases}
 use mathlib.Core.List.Memᴰ
 use Rattle.std.proofs.Math.Decide.{ℕ_discrete}
 use Rattle.math.specs.Members.{◌∈◌, is_in, from, up_to, keep, Rising, rising_none}
-use Rattle.math.specs.MembersLaws.{by_place, is_in_∈, ∉_is_in, ∈_up_to, rising_first, rising_ext, rising_distinct}
+use Rattle.math.specs.MembersLaws.{by_place, ∉_is_in, ∈_up_to, rising_first, rising_ext, rising_distinct}
 use Rattle.math.specs.Pigeonhole.{get_or_∈, distinct_get_or, rising_by_index}
 use Rattle.math.specs.Xor.{◌⊕◌}
 use Rattle.math.specs.Sums.{xor_over, only}
 use Rattle.math.specs.Gcd.{euclid, gcd, gap, gcd_all}
 use Rattle.plan.specs.Layout.{Layout, Valid, layout, top, bottom, divisor}
 use Rattle.code.specs.Places.{places, rows, meets}
-use Rattle.code.specs.Codewords.{at, syndrome, bit_of, blank, Codeword, Agrees, Single, TwoOrMore, None}
+use Rattle.code.specs.Codewords.{at, syndrome, bit_of, Codeword, Agrees, Single, TwoOrMore, None}
 use Rattle.code.specs.Marks.{mark, erasures}
 use Rattle.code.specs.Cycles.{Cycle}
-use Rattle.code.specs.Components.{Component, Inconsistent, imbalance}
+use Rattle.code.specs.Components.{Component, Inconsistent}
 use Rattle.code.specs.Messages.{Message, Lists, Carries}
 use Rattle.code.specs.Figures.{Least, NonzeroWeight, Capability, pair_number, Pair, Neighbours, Ruler, Figures}
-use Rattle.code.specs.Rounds.{on_row, alone, round, Rounds}
-use Rattle.code.proofs.Theorems.{rounds_none, rounds_next}
 use Rattle.code.specs.Laws.Forest.{Erased, Forest, above}
 use Rattle.code.proofs.Laws.Basics.{∈_places}
-use Rattle.code.specs.Laws.Labels.{merge, label, component_of}
+use Rattle.code.specs.Laws.Labels.{merge, label}
 use Rattle.code.proofs.Laws.Labels.{component_is}
 use Rattle.code.proofs.Laws.Unique.{forest_unique}
 use Rattle.code.proofs.Laws.CycleLaws.{two, forest_no_cycle}
@@ -32,31 +30,18 @@ use Rattle.code.proofs.Laws.Paths.{above_head}
 use Rattle.code.proofs.Laws.MarksLaws.{erasures_erased}
 use Rattle.code.proofs.Laws.Pairs.{zero_agrees}
 use Rattle.code.proofs.Laws.ParityCount.{parity_count}
-use Rattle.code.proofs.Laws.Distance.{distance_ruler, distance_other}
+use Rattle.code.proofs.Laws.Distance.{distance_other}
 use Rattle.worked_examples.specs.Examples.{RoundsSpecimen, job, straight, drum, three, equal, four, six_marks, five_marks, Specimens}
-use Rattle.worked_examples.specs.ProofTests.{every, every_below, every_two, once, closes, is_pair, is_next, numbers_from, is_ruler, same_pair, valid_layout, valid_by_test, codeword_by_test, agrees_by_test, erased_by_marks, forest_by_test, single, not_two, none, messages_by_test, cycle_by_test, pair_by_test, neighbours_by_test, ruler_by_test, unequal_by_test}
+use Rattle.worked_examples.specs.ProofTests.{every, every_below, every_two, once, closes, is_pair, is_next, numbers_from, valid_layout, valid_by_test, codeword_by_test, agrees_by_test, erased_by_marks, forest_by_test, single, not_two, none, messages_by_test, cycle_by_test, pair_by_test, neighbours_by_test, unequal_by_test}
+use Rattle.worked_examples.proofs.Steps.{crossed_sum, drum_neighbours, five_marked, five_rounds, fives, job_cycle, job_distance, job_valid, pair_of, row_zero}
 
 -- a cycle of erasures on the zero block
 loose_by_cycle : (L : Layout) → Valid L → (E l : List ℕ) → Erased L E → Cycle L E l → TwoOrMore (Agrees L E (replicate (L.n * L.t) 0))
 loose_by_cycle L ok E l er cy = two L ok E (replicate (L.n * L.t) 0) (replicate (L.n * L.t) 0) l er cy (zero_agrees L ok E)
 
--- ---- the job: n 3, t 7, shifts 0 1 3
-
-pub job_valid : Valid job
-unfolding every up_to from
-job_valid = valid_by_test 3 7 (0 ∷ 1 ∷ 3 ∷ []) refl
-
 six_marked : erasures job six_marks ≡ 0 ∷ 2 ∷ 7 ∷ 10 ∷ 16 ∷ 17 ∷ []
 unfolding erasures mark bit_of places layout up_to from keep is_in
 six_marked = refl
-
-five_marked : erasures job five_marks ≡ 2 ∷ 7 ∷ 10 ∷ 16 ∷ 17 ∷ []
-unfolding erasures mark bit_of places layout up_to from keep is_in
-five_marked = refl
-
-job_cycle : Cycle job (0 ∷ 2 ∷ 7 ∷ 10 ∷ 16 ∷ 17 ∷ []) (0 ∷ 7 ∷ 16 ∷ 2 ∷ 10 ∷ 17 ∷ [])
-unfolding layout top bottom every every_two once is_in up_to from
-job_cycle = cycle_by_test job (0 ∷ 2 ∷ 7 ∷ 10 ∷ 16 ∷ 17 ∷ []) (0 ∷ 7 ∷ 16 ∷ 2 ∷ 10 ∷ 17 ∷ []) 3 refl (omega arith) refl refl refl refl refl refl refl
 
 cycle : Cycle job (erasures job six_marks) (0 ∷ 7 ∷ 16 ∷ 2 ∷ 10 ∷ 17 ∷ [])
 cycle = rw six_marked job_cycle
@@ -64,10 +49,6 @@ cycle = rw six_marked job_cycle
 loose : TwoOrMore (Agrees job (erasures job six_marks) (replicate 21 0))
 unfolding layout
 loose = loose_by_cycle job job_valid (erasures job six_marks) (0 ∷ 7 ∷ 16 ∷ 2 ∷ 10 ∷ 17 ∷ []) (erasures_erased job six_marks) cycle
-
--- the agreeing codeword: 5 on the cycle, 0 elsewhere
-abbrev fives : List ℕ
-fives = 5 ∷ 0 ∷ 5 ∷ 0 ∷ 0 ∷ 0 ∷ 0 ∷ 5 ∷ 0 ∷ 0 ∷ 5 ∷ 0 ∷ 0 ∷ 0 ∷ 0 ∷ 0 ∷ 5 ∷ 5 ∷ 0 ∷ 0 ∷ 0 ∷ []
 
 fives_codeword : Codeword job fives
 unfolding layout every rows up_to from syndrome xor_over places keep is_in only meets top bottom ◌⊕◌
@@ -112,41 +93,11 @@ cycle_only k cy = job_cycle_only k (rw six_marked at cy)
 recovered : Single (Agrees job (erasures job five_marks) (set (replicate 21 0) 0 5))
 recovered = rw five_marked (single job job_valid (erased_by_marks job five_marks five_marked) five_forest fives_agrees)
 
--- one round after the other: 7 and 17, then 10 and 16, then 2
-first_round : round job (2 ∷ 7 ∷ 10 ∷ 16 ∷ 17 ∷ []) ≡ 2 ∷ 10 ∷ 16 ∷ []
-unfolding round alone on_row layout keep meets top bottom
-first_round = refl
-
-second_round : round job (2 ∷ 10 ∷ 16 ∷ []) ≡ 2 ∷ []
-unfolding round alone on_row layout keep meets top bottom
-second_round = refl
-
-third_round : round job (2 ∷ []) ≡ []
-unfolding round alone on_row layout keep meets top bottom
-third_round = refl
-
-five_rounds : Rounds job (erasures job five_marks) 3
-five_rounds =
-    rw five_marked
-    (rounds_next job _ (omega arith) (rw first_round
-    (rounds_next job _ (omega arith) (rw second_round
-    (rounds_next job _ (omega arith) (rw third_round
-    (rounds_none job)))))))
-
 is_fives : recovered.one ≡ fives
 is_fives = sym (recovered.only_one fives (rw five_marked fives_agrees))
 
 symbol : at recovered.one 17 ≡ 5
 symbol = rw is_fives
-
--- that codeword with symbol 0 changed to 6
-crossed_sum : imbalance job [] (at (set fives 0 6)) (0 ∷ []) ≡ 3
-unfolding imbalance blank layout up_to from syndrome xor_over places keep is_in only meets top bottom ◌⊕◌
-crossed_sum = refl
-
-row_zero : component_of job [] 0 ≡ 0 ∷ []
-unfolding component_of layout label rows up_to from keep
-row_zero = refl
 
 fives_crossed : Inconsistent job [] (at (set fives 0 6)) (0 ∷ [])
 unfolding layout
@@ -244,19 +195,10 @@ unfolding layout every closes above keep label merge top bottom
 never_loose =
     let er = erased_by_marks four (0x15 ∷ []) three_marked in not_two four four_valid er (forest_by_test four four_valid er refl)
 
--- ---- figures
-
-pair_of : (L : Layout) (i j : ℕ) → is_in i L.sections ≡ true → is_in j L.sections ≡ true → i ≢ j → Pair L i j
-pair_of L i j a b n = record { first = is_in_∈ i L.sections a; second = is_in_∈ j L.sections b; differ = n }
-
 figures : (L : Layout) → Valid L → {parity pair near distance : ℕ} → 0 < length L.sections → 2 * L.t - divisor L ≡ parity →
     Least (Capability L (Pair L)) pair → Least (Capability L (Neighbours L)) near → Least (NonzeroWeight L) distance → Figures L parity pair near distance
 figures L ok some e a b c =
     let l = parity_count L ok some in record { parity_places = (l.0, (l.1, l.2 ∙ e)); pair_figure = a; neighbour_figure = b; distance_is = c }
-
-job_distance : Least (NonzeroWeight job) 6
-unfolding layout is_ruler same_pair every_two every up_to from
-job_distance = distance_ruler job job_valid (omega arith) (ruler_by_test job refl)
 
 figures_job : Figures job 13 13 13 6
 unfolding layout up_to from divisor gcd_all gap gcd euclid is_in pair_number numbers_from is_pair is_next every_two every
@@ -295,13 +237,6 @@ drum_valid = valid_by_test 3 4 (0 ∷ 1 ∷ 2 ∷ []) refl
 drum_distance : Least (NonzeroWeight drum) 4
 unfolding layout every_two every up_to from
 drum_distance = distance_other drum drum_valid (omega arith) (unequal_by_test drum refl) (straight_no_ruler 4)
-
--- sections 2 and 0 are neighbours and share 2
-drum_neighbours : Least (Capability drum (Neighbours drum)) 3
-unfolding layout up_to from gap gcd euclid is_in pair_number numbers_from is_next every_two every
-drum_neighbours =
-    neighbours_by_test drum 2 0 3 (record { pair = pair_of drum 2 0 refl refl (omega arith); next = inr (omega arith, refl, refl) })
-    refl refl
 
 figures_drum : Figures drum 7 3 3 4
 unfolding layout up_to from divisor gcd_all gap gcd euclid is_in pair_number numbers_from is_pair every_two every

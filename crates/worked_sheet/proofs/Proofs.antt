@@ -36,7 +36,8 @@ use Rattle.turns.specs.Sheets.{Sheet, start}
 use Rattle.one_sheet.specs.OneSheet.{one_sheet}
 use Rattle.worked_examples.specs.Examples.{job, six_marks, five_marks, Specimens}
 use Rattle.worked_examples.specs.ProofTests.{every, bytes_by_test}
-use Rattle.worked_examples.proofs.Proofs.{job_valid, specimens}
+use Rattle.worked_examples.proofs.Steps.{job_valid}
+use Rattle.worked_examples.proofs.Proofs.{specimens}
 use Rattle.worked_sheet.specs.Table.{ascii, sample_job, sample_sheet, SpecimenTable}
 
 -- ---- the job's plan and its layout

@@ -1,5 +1,5 @@
 -- The places that close a cycle of places above them: what a spanning forest leaves out. They are the fetch list, and of all places they are the message places.
--- Main results: closings_lists, closings_leave, closings_fewest, closings_fetch.
+-- Main results: closings_lists, closings_leave, closings_fewest.
 use Rattle.std.specs.Prelude.{◌≡◌, ◌↔◌, not, List, ℕ, ◌+◌, ◌≤◌, length}
 use Rattle.std.proofs.Common.{subst, sym, ⊎_elim, arith}
 use Rattle.std.proofs.Math.Logic.{by_cases}
@@ -11,7 +11,7 @@ use Rattle.plan.specs.Layout.{Layout, Valid, top, bottom}
 use Rattle.code.specs.Cycles.{Lowest}
 use Rattle.code.specs.Components.{Connected}
 use Rattle.code.specs.Messages.{Lists}
-use Rattle.code.specs.FetchList.{less, NoCycle, FetchList}
+use Rattle.code.specs.FetchList.{less, NoCycle}
 use Rattle.code.specs.Laws.Forest.{Erased, Forest, above}
 use Rattle.code.proofs.Laws.Labels.{label_le, label_lowest, dec_connected, connected_own, connected_mono}
 use Rattle.code.specs.Laws.Roots.{roots}
@@ -111,6 +111,3 @@ module _ (L : Layout) (ok : Valid L) {E : List ℕ} (er : Erased L E) where
   closings_fewest G none =
       let f = ⊎_elim (λ x. x) (λ c. absurd (none c.0 c.1)) (forest_or_cycle L ok (dec_connected L) (less E G) (erased_less G er)) in
       omega (arith, forest_most (λ c m. (less_∈ E G m).0) f, length_less G er.rising, length_closings L er)
-
-  pub closings_fetch : FetchList L E (closings L E)
-  closings_fetch = record { list = closings_lists; leaves = closings_leave; fewest = closings_fewest }

@@ -1,5 +1,5 @@
 -- What follows from a fetch list, whatever list it is.
--- Main results: fetch_list_once, fetch_list_none, fetch_bits_once; fetched_never (what is left decides at most one block), fewer_leave (fewer places leave a cycle), fewer_loose.
+-- Main results: fetch_list_once, fetch_list_none, fetch_bits_once; fetched_never (what is left decides at most one block), fewer_leave (fewer places leave a cycle).
 use Rattle.std.specs.Prelude.{◌≡◌, List, [], ℕ, ◌*◌, ◌<◌, length, replicate}
 use Rattle.std.proofs.Common.{sym, ◌∙◌, ap, subst, ⊎_elim, arith}
 use mathlib.Core.List.Memᴰ
@@ -47,9 +47,3 @@ module _ (L : Layout) (ok : Valid L) {E F : List ℕ} (p : FetchList L E F) wher
       (λ f. absurd (omega (arith, p.fewest G (forest_no_cycle L ok (less E G) (erased_less G er) f))))
       (λ c. c)
       (forest_or_cycle L ok (dec_connected L) (less E G) (erased_less G er))
-
-  -- so the zero block is loose
-  pub fewer_loose : Erased L E → (G : List ℕ) → length G < length F → TwoOrMore (Agrees L (less E G) (replicate (L.n * L.t) 0))
-  fewer_loose er G h =
-      let c = fewer_leave er G h in
-      two L ok (less E G) (replicate (L.n * L.t) 0) (replicate (L.n * L.t) 0) c.0 (erased_less G er) c.1 (zero_agrees L ok (less E G))

@@ -23,12 +23,12 @@ use Rattle.math.specs.Sums.{sum_over, only}
 use Rattle.math.specs.SumsLaws.{only_true, only_false, sum_over_ext, sum_over_zero, sum_over_append, length_keep_sum}
 use Rattle.plan.specs.Layout.{Layout}
 use Rattle.code.specs.Places.{places}
-use Rattle.code.specs.Places.{places_all}
 use Rattle.code.specs.Codewords.{bit_of}
 use Rattle.code.specs.Marks.{mark, mark_bytes, NoSpare, erasures, BitsOf, mark_count}
 use Rattle.code.proofs.Laws.Basics.{rising_places}
 use Rattle.code.specs.Laws.Forest.{Erased}
 use Rattle.code.specs.Laws.MarksLaws.{Puts, places_of}
+use Rattle.code.proofs.Places.{places_all}
 
 -- ---- bits
 

@@ -21,13 +21,7 @@ use Rattle.plan.specs.Layout.{Layout, Valid, top_row, bottom_row, top, bottom}
 use Rattle.code.specs.Places.{places, rows, meets, cpm, matrix}
 use Rattle.code.specs.Codewords.{at, syndrome, Codeword, bit_of, product}
 use Rattle.code.proofs.Laws.Basics.{places_∈, distinct_rows, ∈_rows, rows_∈, offset_lt, top≢bottom, bottom_ge, top_lt, meets_row}
-
--- tests of two statements that follow from one another are equal
-eqb_iff : (a b c d : ℕ) → (a ≡ b → c ≡ d) → (c ≡ d → a ≡ b) → eqb a b ≡ eqb c d
-eqb_iff a b c d f g =
-    by_cases (ℕ_discrete a b)
-    (λ e. eq-eqb a b e ∙ sym (eq-eqb c d (f e)))
-    (λ n. ne_eqb a b n ∙ sym (ne_eqb c d (λ e. n (g e))))
+use Rattle.code.proofs.Laws.MatrixUpper.{eqb_iff, matrix_upper}
 
 -- a test of a single number counts one in a list that holds it
 pub sum_over_at_one : {l : List ℕ} {a : ℕ} → Distinct l → a ∈ l → sum_over l (λ c. only (eqb c a) 1) ≡ 1
@@ -50,10 +44,6 @@ module _ (L : Layout) (ok : Valid L) where
   unfolding meets
   meets_lower c {r} h = rw (ne_eqb r (top L c) (λ e. omega (arith, top_lt L ok c, e)))
 
-  matrix_upper : (c : ℕ) {r : ℕ} → r < L.t → matrix L r c ≡ only (eqb r (top L c)) 1
-  unfolding matrix cpm top top_row
-  matrix_upper c {r} h = rw (lt-ltb r L.t h, add-zero, mod-eq_of_lt h) (ap (λ b. only b 1) (eqb_iff (c % L.t) r r (c % L.t) sym sym))
-
   matrix_lower : {c r : ℕ} → c ∈ places L → L.t ≤ r → r < 2 * L.t → matrix L r c ≡ only (eqb r (bottom L c)) 1
   unfolding matrix cpm bottom bottom_row
   matrix_lower {c} {r} m l h =
@@ -69,7 +59,7 @@ module _ (L : Layout) (ok : Valid L) where
   pub matrix_meets : {c r : ℕ} → c ∈ places L → r < 2 * L.t → matrix L r c ≡ only (meets L c r) 1
   matrix_meets {c} {r} m h =
       by_cases (dec_lt r L.t)
-      (λ l. matrix_upper c l ∙ ap (λ b. only b 1) (sym (meets_upper c l)))
+      (λ l. matrix_upper L c l ∙ ap (λ b. only b 1) (sym (meets_upper c l)))
       (λ l. matrix_lower m (omega arith) h ∙ ap (λ b. only b 1) (sym (meets_lower c (omega arith))))
 
   product_bit : (v : ℕ → ℕ) (b : ℕ) {r : ℕ} → r < 2 * L.t → product L v b r ≡ syndrome L v r / 2 ^ b % 2

@@ -2,7 +2,6 @@
 use Rattle.std.specs.Prelude.{◌≡◌, ◌≢◌, List, ℕ}
 use Rattle.std.proofs.Math.Dec.{eqb}
 use Rattle.math.specs.Members.{from, keep}
-pub use Rattle.code.specs.Places.{places_all}
 use Rattle.code.specs.Marks.{mark}
 
 -- ---- one bit set or cleared
