@@ -42,29 +42,23 @@ pub(crate) fn flip16(s: &mut Words, i: usize, v: usize) {
 
 // The first k entries become 0.
 pub(crate) fn clear16(s: &mut Words, k: usize) {
-    let mut i: usize = 0;
-    while i < k {
+    for i in 0..k {
         put16(&mut *s, i, 0);
-        i += 1;
     }
 }
 
 // The first k bytes of one buffer into another.
 pub(crate) fn copy8(k: usize, from: &Bytes, to: &mut Bytes) {
-    let mut i: usize = 0;
-    while i < k {
+    for i in 0..k {
         put8(&mut *to, i, get8(from, i));
-        i += 1;
     }
 }
 
 // Whether the entries from one index up to another are 0.
 pub(crate) fn zeros16(s: &Words, from: usize, end: usize) -> bool {
     let mut all = true;
-    let mut i = from;
-    while i < end {
+    for i in from..end {
         all = all & (get16(s, i) == 0);
-        i += 1;
     }
     all
 }
@@ -72,10 +66,8 @@ pub(crate) fn zeros16(s: &Words, from: usize, end: usize) -> bool {
 // Whether the first k bytes are the same.
 pub(crate) fn same8(k: usize, a: &Bytes, b: &Bytes) -> bool {
     let mut all = true;
-    let mut i: usize = 0;
-    while i < k {
+    for i in 0..k {
         all = all & (get8(a, i) == get8(b, i));
-        i += 1;
     }
     all
 }
@@ -83,10 +75,8 @@ pub(crate) fn same8(k: usize, a: &Bytes, b: &Bytes) -> bool {
 // Whether the first k entries are the same.
 pub(crate) fn same16(k: usize, a: &Words, b: &Words) -> bool {
     let mut all = true;
-    let mut i: usize = 0;
-    while i < k {
+    for i in 0..k {
         all = all & (get16(a, i) == get16(b, i));
-        i += 1;
     }
     all
 }

@@ -9,42 +9,40 @@ mod second;
 mod tally;
 mod tries;
 
+use std::io;
 use tally::Tally;
 use tries::{fixed, seeded};
 
 // Writes the words, each ended by a comma, with a count after each: one word and count to a line.
-fn sheet(words: &[u8], tally: &Tally) {
+fn sheet(rt: &impl Print, words: &[u8], tally: &Tally) -> io::Result<()> {
     let mut k: usize = 0;
-    let mut i: usize = 0;
-    while i < words.len() {
-        k = letter(words[i], tally, k);
-        i += 1;
+    for c in words {
+        k = letter(rt, *c, tally, k)?;
     }
+    Ok(())
 }
 
 // Writes a letter, or the k-th count where the word ends; and answers with the number of counts written.
-fn letter(c: u8, tally: &Tally, k: usize) -> usize {
+fn letter(rt: &impl Print, c: u8, tally: &Tally, k: usize) -> io::Result<usize> {
     if c != b',' {
-        let text = [c];
-        io::write_all(1, &text[..]);
-        return k;
+        rt.write_all(&[c])?;
+        return Ok(k);
     }
-    line(tally::count(tally, k));
-    std::num::wrapping_add_usize(k, 1)
+    line(rt, tally::count(tally, k))?;
+    Ok(k.wrapping_add(1))
 }
 
-fn line(count: u64) {
-    io::write_all(1, b" ");
-    io::print_decimal(1, count);
-    io::write_all(1, b"\n");
+fn line(rt: &impl Print, count: u64) -> io::Result<()> {
+    println!(rt; " {count}")
 }
 
-fn main() {
+fn main(rt: HostRuntime) -> io::Result<()> {
     let mut tally = [0u64; 18];
     fixed::all(&mut tally);
     seeded::all(&mut tally);
     sheet(
+        &rt,
         b"recovered,loose,crossed,counted,sealed,read,read crossed,figures,plan,size,shift,length,spare,family,ended,waiting,fetched,mismatches,",
         &tally,
-    );
+    )
 }

@@ -3,12 +3,12 @@ ghost use Rattle.std.specs.Prelude.{◌≤◌};
 
 // a + b, modulo 2^64.
 pub(crate) fn plus(a: usize, b: usize) -> usize {
-    std::num::wrapping_add_usize(a, b)
+    a.wrapping_add(b)
 }
 
 // a - b, modulo 2^64.
 pub(crate) fn minus(a: usize, b: usize) -> usize {
-    std::num::wrapping_sub_usize(a, b)
+    a.wrapping_sub(b)
 }
 
 // a × b where both are below 65,536, else 0.

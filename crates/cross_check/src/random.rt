@@ -11,7 +11,7 @@ pub(crate) fn next(x: u64) -> u64 {
 
 // A seed of a seed and a number.
 pub(crate) fn seeded(seed: u64, k: u64) -> u64 {
-    let x = std::num::wrapping_add_u64(next((seed << 1) | 1), next((k << 1) | 1));
+    let x = next((seed << 1) | 1).wrapping_add(next((k << 1) | 1));
     next(next(next(x | 1)))
 }
 
@@ -23,21 +23,17 @@ pub(crate) fn pick(seed: u64, k: u64, n: usize) -> usize {
 // The first k bytes become random ones.
 pub(crate) fn fill8(s: &mut Bytes, k: usize, seed: u64) {
     let mut x = seed | 1;
-    let mut i: usize = 0;
-    while i < k {
+    for i in 0..k {
         x = next(x);
         put8(&mut *s, i, low8((x >> 24) as usize));
-        i += 1;
     }
 }
 
 // The first k entries become random ones.
 pub(crate) fn fill16(s: &mut Words, k: usize, seed: u64) {
     let mut x = seed | 1;
-    let mut i: usize = 0;
-    while i < k {
+    for i in 0..k {
         x = next(x);
         put16(&mut *s, i, (x >> 24) as usize);
-        i += 1;
     }
 }

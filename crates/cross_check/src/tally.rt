@@ -61,7 +61,7 @@ pub(crate) type Tally = [u64; 18];
 
 pub(crate) fn note(tally: &mut Tally, outcome: usize) {
     let i = least(outcome, MISMATCH);
-    tally[i] = std::num::wrapping_add_u64(tally[i], 1);
+    tally[i] = tally[i].wrapping_add(1);
 }
 
 pub(crate) fn count(tally: &Tally, k: usize) -> u64 {

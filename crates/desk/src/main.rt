@@ -2,9 +2,12 @@
 // The crate streaming says what to read and write next and keeps every number; here are the buffers, the reads and the writes.
 #![tactic(auto)]
 
+ghost use Rattle.std.specs.Prelude.{◌≡◌, ◌^◌, ◌<◌, IfOk, OnErr, pos, negsuc};
+
 use act::{BLOCK, MARKS};
-use libc::{STDIN_FILENO, STDOUT_FILENO};
 use lines::LINE;
+use std::io;
+use std::io::Read;
 use stream::{Ask, Stream, Worked};
 use streaming::{brought, opened, room, waiting, work, written};
 
@@ -20,28 +23,40 @@ struct Next {
     more: bool,
 }
 
-fn read(stream: Stream, input: &mut [u8]) -> Stream {
+// The number of bytes that a read put there; below 0 where it failed.
+fn count(got: io::Result<usize>) -> isize
+    ensures read { IfOk got (λ n. n < 2 ^ 63 → result ≡ pos n) }
+    ensures failed { OnErr got (result ≡ negsuc 0) }
+{
+    match got {
+        Ok(n) => isize::try_from(n).unwrap_or(-1),
+        Err(_) => -1,
+    }
+}
+
+// One read: what a pipe has by now is enough.
+fn read(rt: &HostRuntime, stream: Stream, input: &mut [u8]) -> Stream {
     let from = room(stream, input);
-    let got = libc::read(STDIN_FILENO, &mut input[from..]);
+    let got = count(rt.stdin().read(&mut input[from..]));
     brought(stream, input, got)
 }
 
-fn write(stream: Stream, sheet: &[u8]) -> Stream {
-    let done = io::write_all(STDOUT_FILENO, waiting(stream, sheet));
+fn write(rt: &HostRuntime, stream: Stream, sheet: &[u8]) -> Stream {
+    let done = rt.write_all(waiting(stream, sheet)).is_ok();
     written(stream, done)
 }
 
 // What is asked for.
-fn answer(worked: Worked, sheet: &[u8], input: &mut [u8]) -> Next {
+fn answer(rt: &HostRuntime, worked: Worked, sheet: &[u8], input: &mut [u8]) -> Next {
     let here = worked.stream;
     let ask = worked.ask;
     match ask {
         Ask::Read => Next {
-            stream: read(here, input),
+            stream: read(rt, here, input),
             more: true,
         },
         Ask::Write => Next {
-            stream: write(here, sheet),
+            stream: write(rt, here, sheet),
             more: true,
         },
         _ => Next {
@@ -53,6 +68,7 @@ fn answer(worked: Worked, sheet: &[u8], input: &mut [u8]) -> Next {
 
 // The commands at hand, then what is asked for.
 fn turn(
+    rt: &HostRuntime,
     stream: Stream,
     block: &mut [u8],
     marks: &mut [u8],
@@ -60,15 +76,15 @@ fn turn(
     input: &mut [u8],
 ) -> Next {
     let worked = work(stream, block, marks, &mut sheet[..], &mut input[..]);
-    answer(worked, sheet, input)
+    answer(rt, worked, sheet, input)
 }
 
-// A proved loop has to end, and nothing says that a job does: the turns are counted down from a number that no run uses up.
-fn run(block: &mut [u8], marks: &mut [u8], sheet: &mut [u8], input: &mut [u8]) {
+// A proved loop has to end, and nothing says that a job does: the turns are counted up to a number that no run reaches.
+fn run(rt: &HostRuntime, block: &mut [u8], marks: &mut [u8], sheet: &mut [u8], input: &mut [u8]) {
     let mut stream = opened();
-    let mut left = u64::MAX;
-    while 0 < left {
+    for _ in 0..u64::MAX {
         let next = turn(
+            rt,
             stream,
             &mut block[..],
             &mut marks[..],
@@ -79,14 +95,13 @@ fn run(block: &mut [u8], marks: &mut [u8], sheet: &mut [u8], input: &mut [u8]) {
             return;
         }
         stream = next.stream;
-        left -= 1;
     }
 }
 
-fn main() {
+fn main(rt: HostRuntime) {
     let mut block = [0u8; BLOCK];
     let mut marks = [0u8; MARKS];
     let mut sheet = [0u8; SHEET + LINE];
     let mut input = [0u8; INPUT];
-    run(&mut block, &mut marks, &mut sheet, &mut input);
+    run(&rt, &mut block, &mut marks, &mut sheet, &mut input);
 }

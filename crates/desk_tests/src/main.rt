@@ -2,10 +2,11 @@
 // The file stdin has the jobs, a line each; the file stdout has the sheets that document 01 asks for.
 #![tactic(auto)]
 
-ghost use Rattle.std.specs.Prelude.{ℕ, ◌%◌, ◌<◌, ◌≤◌, ◌≡◌, get_or};
+ghost use Rattle.std.specs.Prelude.{ℕ, ◌%◌, ◌<◌, ◌≤◌, ◌≡◌, ◌≢◌, IfOk, length, slice_index};
 
-use libc::{STDIN_FILENO, STDOUT_FILENO};
 use sheet::{Ran, run};
+use std::io;
+use std::io::Read;
 
 // A longer line is given as its length and a checksum.
 const LONGEST: usize = 120;
@@ -32,30 +33,24 @@ fn mix(sum: u32, b: u8) -> u32 {
 
 fn checksum(line: &[u8], length: usize) -> u32 {
     let mut sum: u32 = 0;
-    let mut i = 0;
-    while i < length {
+    for i in 0..length {
         sum = mix(sum, byte(line, i));
-        i += 1;
     }
     sum
 }
 
-fn put_long(length: usize, sum: u32) {
-    io::write_all(STDOUT_FILENO, b"long ");
-    io::print_decimal(STDOUT_FILENO, length as u64);
-    io::write_all(STDOUT_FILENO, b" ");
-    io::print_decimal(STDOUT_FILENO, sum as u64);
-    io::write_all(STDOUT_FILENO, b"\n");
+fn put_long(rt: &impl Print, length: usize, sum: u32) -> io::Result<()> {
+    println!(rt; "long {length} {sum}")
 }
 
-fn put(line: &[u8], length: usize) {
+fn put(rt: &impl Print, line: &[u8], length: usize) -> io::Result<()> {
     if LONGEST < length {
-        put_long(length, checksum(line, length));
-        return;
+        return put_long(rt, length, checksum(line, length));
     }
     if length <= line.len() {
-        io::write_all(STDOUT_FILENO, &line[0..length]);
+        rt.write_all(&line[0..length])?;
     }
+    Ok(())
 }
 
 // The length of a sheet; 0 where it did not fit.
@@ -68,60 +63,59 @@ fn length(ran: Ran) -> usize {
 
 // The index of the first byte of `s` that equals `b`, or the length of `s` where there is none.
 fn find(s: &[u8], b: u8) -> usize
-    ensures* within { do ⌜ result ≤ (← (⟦s.len()⟧).entry) ⌝ }
-    ensures before { (k : ℕ) → k < result → get_or s.now k 0 ≡ b → ⊥ }
-    ensures* found { do ⌜ (result < (← (⟦s.len()⟧).entry) → get_or s.now result 0 ≡ b) ⌝ }
+    ensures within { result ≤ length s.now }
+    ensures before { (k : ℕ) → k < result → slice_index s.now k ≢ b }
+    ensures found { result < length s.now → slice_index s.now result ≡ b }
 {
-    let mut i = 0;
-    while i < s.len() {
-        if s[i] == b {
+    for (i, x) in s.iter().enumerate() {
+        if *x == b {
             return i;
         }
-        i += 1;
     }
-    i
+    s.len()
 }
 
 // The first line of a sheet, and its length without the line feed.
-fn put_line(sheet: &[u8]) -> usize
-    ensures* { do ⌜ result ≤ (← (⟦sheet.len()⟧).entry) ⌝ }
+fn put_line(rt: &impl Print, sheet: &[u8]) -> io::Result<usize>
+    ensures { IfOk result (λ end. end ≤ length sheet.now) }
 {
     let end = find(sheet, b'\n');
     if end == sheet.len() {
-        return end;
+        return Ok(end);
     }
-    put(sheet, end + 1);
-    end
+    put(rt, sheet, end + 1)?;
+    Ok(end)
 }
 
 // Every line of a sheet.
-fn put_sheet(sheet: &[u8]) {
+fn put_sheet(rt: &impl Print, sheet: &[u8]) -> io::Result<()> {
     let mut at = 0;
     while at < sheet.len() {
-        at += put_line(&sheet[at..]);
+        at += put_line(rt, &sheet[at..])?;
         if at == sheet.len() {
-            return;
+            return Ok(());
         }
         at += 1;
     }
+    Ok(())
 }
 
 // A sheet of this length.
-fn put_front(sheet: &[u8], all: usize) {
+fn put_front(rt: &impl Print, sheet: &[u8], all: usize) -> io::Result<()> {
     if sheet.len() < all {
-        return;
+        return Ok(());
     }
-    put_sheet(&sheet[0..all]);
+    put_sheet(rt, &sheet[0..all])
 }
 
 // Performs the job and writes its sheet.
-fn show(name: &[u8], job: &[u8]) {
-    io::write_all(STDOUT_FILENO, b"-- ");
-    io::write_all(STDOUT_FILENO, name);
-    io::write_all(STDOUT_FILENO, b"\n");
+fn show(rt: &impl Print, name: &[u8], job: &[u8]) -> io::Result<()> {
+    rt.write_all(b"-- ")?;
+    rt.write_all(name)?;
+    rt.write_all(b"\n")?;
     let mut sheet = [0u8; SHEET];
     let all = length(run(job, &mut sheet));
-    put_front(&sheet, all);
+    put_front(rt, &sheet, all)
 }
 
 // The value of a hex digit; 16 where it is none.
@@ -133,7 +127,8 @@ fn digit(b: u8) -> usize
 
 // The number of digits, where they make whole bytes.
 fn whole(digits: usize) -> usize
-    ensures { (digits % 2 ≡ 0 → result ≡ digits) × (digits % 2 ≡ 1 → result ≡ 18446744073709551615) }
+    ensures even { digits % 2 ≡ 0 → result ≡ digits }
+    ensures odd { digits % 2 ≡ 1 → result ≡ 18446744073709551615 }
 {
     if digits % 2 == 1 {
         return MALFORMED;
@@ -165,82 +160,95 @@ fn take(b: u8, digits: usize, job: &mut [u8]) -> usize {
 // Puts the bytes that stand there in hex into a job of zeros, and answers the number of digits.
 fn parse(s: &[u8], job: &mut [u8]) -> usize {
     let mut digits = 0;
-    let mut i = 0;
-    while i < s.len() {
-        digits = take(s[i], digits, &mut job[..]);
-        i += 1;
+    for b in s {
+        digits = take(*b, digits, &mut job[..]);
     }
     whole(digits)
 }
 
-fn malformed(line: &[u8]) {
-    io::write_all(STDOUT_FILENO, b"malformed: ");
-    io::write_all(STDOUT_FILENO, line);
-    io::write_all(STDOUT_FILENO, b"\n");
+fn malformed(rt: &impl Print, line: &[u8]) -> io::Result<()> {
+    rt.write_all(b"malformed: ")?;
+    rt.write_all(line)?;
+    rt.write_all(b"\n")
 }
 
 // The job has this length; false where it has not.
-fn show_front(name: &[u8], job: &[u8], length: usize) -> bool {
+fn show_front(rt: &impl Print, name: &[u8], job: &[u8], length: usize) -> io::Result<bool> {
     if job.len() < length {
-        return false;
+        return Ok(false);
     }
-    show(name, &job[0..length]);
-    true
+    show(rt, name, &job[0..length])?;
+    Ok(true)
 }
 
 // Shows the job whose bytes stand there in hex; false where something else stands there.
-fn show_hex(name: &[u8], hex: &[u8]) -> bool {
+fn show_hex(rt: &impl Print, name: &[u8], hex: &[u8]) -> io::Result<bool> {
     let mut job = [0u8; JOB];
     let digits = parse(hex, &mut job);
-    show_front(name, &job, digits / 2)
+    show_front(rt, name, &job, digits / 2)
 }
 
 // A line `name: bytes in hex`. An empty line and one that begins with # are passed over.
-fn case(line: &[u8]) {
+fn case(rt: &impl Print, line: &[u8]) -> io::Result<()> {
     if byte(line, 0) == b'#' {
-        return;
+        return Ok(());
     }
     if line.len() == 0 {
-        return;
+        return Ok(());
     }
     let colon = find(line, b':');
     if colon == line.len() {
-        malformed(line);
-        return;
+        return malformed(rt, line);
     }
     let from = colon + 1;
-    if !show_hex(&line[0..colon], &line[from..]) {
-        malformed(line);
+    if !show_hex(rt, &line[0..colon], &line[from..])? {
+        malformed(rt, line)?;
     }
+    Ok(())
 }
 
 // The first line of the text, and its length.
-fn first_line(text: &[u8]) -> usize
-    ensures* { do ⌜ result ≤ (← (⟦text.len()⟧).entry) ⌝ }
+fn first_line(rt: &impl Print, text: &[u8]) -> io::Result<usize>
+    ensures { IfOk result (λ end. end ≤ length text.now) }
 {
     let end = find(text, b'\n');
-    case(&text[0..end]);
-    end
+    case(rt, &text[0..end])?;
+    Ok(end)
 }
 
 // Every line of the text.
-fn cases(text: &[u8]) {
+fn cases(rt: &impl Print, text: &[u8]) -> io::Result<()> {
     let mut at = 0;
     while at < text.len() {
-        at += first_line(&text[at..]);
+        at += first_line(rt, &text[at..])?;
         if at == text.len() {
-            return;
+            return Ok(());
         }
         at += 1;
     }
+    Ok(())
 }
 
-fn main() {
-    let mut text = [0u8; INPUT];
-    let length = io::read_full(STDIN_FILENO, &mut text);
-    if length == INPUT {
-        malformed(b"the input is too long");
-        return;
+// Reads until the text is full or the input ends; how many bytes were read.
+fn read_full(rt: &HostRuntime, text: &mut [u8]) -> io::Result<usize>
+    ensures { IfOk result (λ read. read ≤ length text.new) }
+{
+    let mut read = 0;
+    while read < text.len() {
+        let count = rt.stdin().read(&mut text[read..])?;
+        if count == 0 {
+            break;
+        }
+        read += count;
     }
-    cases(&text[..length]);
+    Ok(read)
+}
+
+fn main(rt: HostRuntime) -> io::Result<()> {
+    let mut text = [0u8; INPUT];
+    let length = read_full(&rt, &mut text)?;
+    if length == INPUT {
+        return malformed(&rt, b"the input is too long");
+    }
+    cases(&rt, &text[..length])
 }

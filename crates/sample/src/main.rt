@@ -2,13 +2,12 @@
 #![tactic(auto)]
 
 use answers::Recovery;
-use libc::STDOUT_FILENO;
 use plan::Plan;
+use std::io;
 
 // A number with a space before it.
-fn number(n: usize) {
-    io::write_all(STDOUT_FILENO, b" ");
-    io::print_decimal(STDOUT_FILENO, n as u64);
+fn number(rt: &impl Print, n: usize) -> io::Result<()> {
+    print!(rt; " {n}")
 }
 
 fn wide(x: u16) -> usize {
@@ -19,19 +18,16 @@ fn symbol(x: u8) -> usize {
     x as usize
 }
 
-fn line_feed() {
-    io::write_all(STDOUT_FILENO, b"\n");
+fn line_feed(rt: &impl Print) -> io::Result<()> {
+    println!(rt)
 }
 
 // The first k numbers of a list.
-fn list(l: &[u16], k: usize) {
-    let mut i = 0;
-    while i < l.len() {
-        if i < k {
-            number(wide(l[i]));
-        }
-        i += 1;
+fn list(rt: &impl Print, l: &[u16], k: usize) -> io::Result<()> {
+    for x in l.iter().take(k) {
+        number(rt, wide(*x))?;
     }
+    Ok(())
 }
 
 // The number of marked places.
@@ -41,46 +37,44 @@ fn marked(plan: Plan, marks: &[u8; 3]) -> usize {
 }
 
 // One recovery and its line.
-fn recovers(plan: Plan, block: &mut [u8; 21], marks: &[u8; 3]) {
+fn recovers(rt: &impl Print, plan: Plan, block: &mut [u8; 21], marks: &[u8; 3]) -> io::Result<()> {
     let mut witness = [0u16; 14];
     match recovery::recover(plan, &mut block[..], &marks[..], &mut witness[..]) {
         Recovery::Recovered => {
-            io::write_all(STDOUT_FILENO, b"recovered");
-            number(marked(plan, marks));
-            line_feed();
+            print!(rt; "recovered")?;
+            number(rt, marked(plan, marks))?;
+            line_feed(rt)
         }
         Recovery::Loose(z) => {
-            io::write_all(STDOUT_FILENO, b"loose");
-            number(z);
-            list(&witness[..], z);
-            line_feed();
+            print!(rt; "loose")?;
+            number(rt, z)?;
+            list(rt, &witness[..], z)?;
+            line_feed(rt)
         }
         Recovery::Crossed(z) => {
-            io::write_all(STDOUT_FILENO, b"crossed");
-            number(z);
-            list(&witness[..], z);
-            line_feed();
+            print!(rt; "crossed")?;
+            number(rt, z)?;
+            list(rt, &witness[..], z)?;
+            line_feed(rt)
         }
-        Recovery::Refused(_) => {
-            io::write_all(STDOUT_FILENO, b"refused\n");
-        }
+        Recovery::Refused(_) => println!(rt; "refused"),
     }
 }
 
-fn main() {
+fn main(rt: HostRuntime) -> io::Result<()> {
     let shifts = [0u16, 1, 3];
     let made = Plan::of(3, 7, &shifts);
     let plan = made.plan;
     let mut block = [0u8; 21];
     // Places 0, 7, 16, 2, 10 and 17 are marked.
-    recovers(plan, &mut block, &[133, 4, 3]);
+    recovers(&rt, plan, &mut block, &[133, 4, 3])?;
     // Symbol 0 is 5 and no longer marked.
     block[0] = 5;
-    recovers(plan, &mut block, &[132, 4, 3]);
-    io::write_all(STDOUT_FILENO, b"symbol 17");
-    number(symbol(block[17]));
-    line_feed();
+    recovers(&rt, plan, &mut block, &[132, 4, 3])?;
+    print!(rt; "symbol 17")?;
+    number(&rt, symbol(block[17]))?;
+    line_feed(&rt)?;
     // Symbol 0 is 6, and nothing is marked.
     block[0] = 6;
-    recovers(plan, &mut block, &[0, 0, 0]);
+    recovers(&rt, plan, &mut block, &[0, 0, 0])
 }

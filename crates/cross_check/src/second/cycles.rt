@@ -31,11 +31,9 @@ fn places_fit(plan: Plan, marks: &Bytes, list: &Words, z: usize) -> bool {
     let mut met = [0u8; 32784];
     let first = get16(list, 0);
     let mut all = true;
-    let mut i: usize = 0;
-    while i < z {
+    for i in 0..z {
         let c = get16(list, i);
         all = all & place_fits(plan, marks, first, c) & is_new(c, &mut met);
-        i += 1;
     }
     all
 }
@@ -48,11 +46,9 @@ fn row_fits(plan: Plan, list: &Words, z: usize, i: usize, r: usize) -> bool {
 fn rows_fit(plan: Plan, list: &Words, z: usize) -> bool {
     let mut passed = [0u8; 32784];
     let mut all = true;
-    let mut i: usize = 0;
-    while i < z {
+    for i in 0..z {
         let r = row_of(plan, i, get16(list, i));
         all = all & row_fits(plan, list, z, i, r) & is_new(r, &mut passed);
-        i += 1;
     }
     all
 }

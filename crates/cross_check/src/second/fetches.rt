@@ -25,11 +25,9 @@ pub(crate) fn fetch(plan: Plan, marks: &Bytes, list: &mut Bytes) -> usize {
     let mut label = [0u16; 4112];
     alone(rows(plan), &mut label);
     let mut count: usize = 0;
-    let mut i: usize = 0;
-    while i < end {
+    for i in 0..end {
         let c = minus(minus(end, i), 1);
         count = plus(count, pass(plan, marks, c, &mut label, &mut *list));
-        i += 1;
     }
     count
 }

@@ -8,10 +8,8 @@ use plan::Plan;
 
 // Each of the first k rows is a component by itself.
 pub(crate) fn alone(k: usize, label: &mut Words) {
-    let mut r: usize = 0;
-    while r < k {
+    for r in 0..k {
         put16(&mut *label, r, r);
-        r += 1;
     }
 }
 
@@ -39,11 +37,9 @@ fn join(plan: Plan, erased: &Bytes, c: usize, label: &mut Words) -> usize {
 fn pass(plan: Plan, is_down: bool, erased: &Bytes, label: &mut Words) -> usize {
     let end = places(plan);
     let mut joined: usize = 0;
-    let mut i: usize = 0;
-    while i < end {
+    for i in 0..end {
         let c = in_turn(is_down, end, i);
         joined = plus(joined, join(plan, erased, c, &mut *label));
-        i += 1;
     }
     joined
 }
@@ -52,12 +48,10 @@ fn pass(plan: Plan, is_down: bool, erased: &Bytes, label: &mut Words) -> usize {
 pub(crate) fn labels(plan: Plan, erased: &Bytes, label: &mut Words) {
     alone(rows(plan), &mut *label);
     let end = plus(rows(plan), 1);
-    let mut i: usize = 0;
-    while i < end {
+    for i in 0..end {
         if pass(plan, i % 2 == 1, erased, &mut *label) == 0 {
             return;
         }
-        i += 1;
     }
 }
 
@@ -65,23 +59,19 @@ pub(crate) fn labels(plan: Plan, erased: &Bytes, label: &mut Words) {
 pub(crate) fn totals(plan: Plan, block: &Bytes, erased: &Bytes, label: &Words, total: &mut Words) {
     let end = rows(plan);
     clear16(&mut *total, end);
-    let mut r: usize = 0;
-    while r < end {
+    for r in 0..end {
         let found = look(plan, block, erased, r);
         flip16(&mut *total, get16(label, r), wide8(found.sum));
-        r += 1;
     }
 }
 
 // The lowest row whose component does not add up to 0; 2t where there is none.
 pub(crate) fn first_crossed(plan: Plan, total: &Words) -> usize {
     let end = rows(plan);
-    let mut r: usize = 0;
-    while r < end {
+    for r in 0..end {
         if get16(total, r) != 0 {
             return r;
         }
-        r += 1;
     }
     end
 }
@@ -99,10 +89,8 @@ fn list_row(label: &Words, r: usize, lowest: usize, z: usize, list: &mut Words) 
 pub(crate) fn list_rows(plan: Plan, label: &Words, lowest: usize, list: &mut Words) -> usize {
     let end = rows(plan);
     let mut z: usize = 0;
-    let mut r: usize = 0;
-    while r < end {
+    for r in 0..end {
         z = list_row(label, r, lowest, z, &mut *list);
-        r += 1;
     }
     z
 }

@@ -8,9 +8,7 @@ use plan::Plan;
 // The greatest d that divides a and t; of 0 and t it is t.
 fn greatest(a: usize, t: usize) -> usize {
     let mut found: usize = 0;
-    let mut d: usize = 0;
-    while d < t {
-        d += 1;
+    for d in 1..=t {
         found = larger(a, t, d, found);
     }
     found
@@ -49,10 +47,8 @@ fn with_pair(plan: Plan, x: usize, found: usize) -> usize {
 pub(crate) fn pair(plan: Plan) -> usize {
     let end = times(plan.n, plan.n);
     let mut found = rows(plan);
-    let mut x: usize = 0;
-    while x < end {
+    for x in 0..end {
         found = with_pair(plan, x, found);
-        x += 1;
     }
     found
 }
@@ -61,10 +57,8 @@ pub(crate) fn pair(plan: Plan) -> usize {
 pub(crate) fn neighbour(plan: Plan) -> usize {
     let n = plan.n;
     let mut found = rows(plan);
-    let mut j: usize = 0;
-    while j < n {
+    for j in 0..n {
         found = least(found, figure(plan, j, remainder(plus(j, 1), n)));
-        j += 1;
     }
     found
 }
@@ -87,10 +81,8 @@ fn difference(plan: Plan, x: usize) -> usize {
 fn meets_before(plan: Plan, x: usize) -> bool {
     let d = difference(plan, x);
     let mut any = false;
-    let mut y: usize = 0;
-    while y < x {
+    for y in 0..x {
         any = any | (difference(plan, y) == d);
-        y += 1;
     }
     any
 }
@@ -99,10 +91,8 @@ fn meets_before(plan: Plan, x: usize) -> bool {
 fn is_ruler(plan: Plan) -> bool {
     let end = times(plan.n, plan.n);
     let mut any = false;
-    let mut x: usize = 0;
-    while x < end {
+    for x in 0..end {
         any = any | meets_before(plan, x);
-        x += 1;
     }
     !any
 }
@@ -110,10 +100,8 @@ fn is_ruler(plan: Plan) -> bool {
 fn equal_before(plan: Plan, i: usize) -> bool {
     let p = shift(plan, i);
     let mut any = false;
-    let mut j: usize = 0;
-    while j < i {
+    for j in 0..i {
         any = any | (shift(plan, j) == p);
-        j += 1;
     }
     any
 }
@@ -121,10 +109,8 @@ fn equal_before(plan: Plan, i: usize) -> bool {
 fn has_equal(plan: Plan) -> bool {
     let n = plan.n;
     let mut any = false;
-    let mut i: usize = 0;
-    while i < n {
+    for i in 0..n {
         any = any | equal_before(plan, i);
-        i += 1;
     }
     any
 }
@@ -153,12 +139,10 @@ fn bit_of(r: usize) -> u64 {
 fn syndrome(plan: Plan, word: u64) -> u64 {
     let end = places(plan);
     let mut sums: u64 = 0;
-    let mut c: usize = 0;
-    while c < end {
+    for c in 0..end {
         if word & bit_of(c) != 0 {
             sums = sums ^ bit_of(top(plan, c)) ^ bit_of(bottom(plan, c));
         }
-        c += 1;
     }
     sums
 }
@@ -167,17 +151,15 @@ fn weighed(plan: Plan, word: u64, found: usize) -> usize {
     if syndrome(plan, word) != 0 {
         return found;
     }
-    least(found, wide32(u64::count_ones(word)))
+    least(found, wide32(word.count_ones()))
 }
 
 // The least weight over all nonzero words of bits. For plans of at most 16 places and 64 rows.
 pub(crate) fn least_weight(plan: Plan) -> usize {
     let end = bit_of(places(plan));
     let mut found = plus(places(plan), 1);
-    let mut word: u64 = 1;
-    while word < end {
+    for word in 1..end {
         found = weighed(plan, word, found);
-        word += 1;
     }
     found
 }

@@ -14,10 +14,8 @@ fn rename_row(r: usize, from: usize, to: usize, label: &mut Words) {
 }
 
 fn rename(end: usize, from: usize, to: usize, label: &mut Words) {
-    let mut r: usize = 0;
-    while r < end {
+    for r in 0..end {
         rename_row(r, from, to, &mut *label);
-        r += 1;
     }
 }
 
@@ -37,21 +35,17 @@ pub(crate) fn parities(plan: Plan, parity: &mut Bytes) {
     let end = places(plan);
     let mut label = [0u16; 4112];
     alone(rows(plan), &mut label);
-    let mut i: usize = 0;
-    while i < end {
+    for i in 0..end {
         let c = minus(minus(end, i), 1);
         put8(&mut *parity, c, visit(plan, c, &mut label));
-        i += 1;
     }
 }
 
 // The sum of the first k bytes.
 fn sum(k: usize, s: &Bytes) -> usize {
     let mut total: usize = 0;
-    let mut i: usize = 0;
-    while i < k {
+    for i in 0..k {
         total = plus(total, wide8(get8(s, i)));
-        i += 1;
     }
     total
 }
@@ -99,10 +93,8 @@ fn carry_one(
 
 fn carry(is_reading: bool, end: usize, parity: &Bytes, from: &Bytes, to: &mut Bytes) {
     let mut i: usize = 0;
-    let mut c: usize = 0;
-    while c < end {
+    for c in 0..end {
         i = carry_one(is_reading, parity, from, c, i, &mut *to);
-        c += 1;
     }
 }
 

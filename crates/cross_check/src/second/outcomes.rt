@@ -14,10 +14,8 @@ pub(crate) struct Outcome {
 
 // A byte for each place: 1 where it is erased.
 fn spread_bits(end: usize, marks: &Bytes, erased: &mut Bytes) {
-    let mut c: usize = 0;
-    while c < end {
+    for c in 0..end {
         put8(&mut *erased, c, bit(marks, c));
-        c += 1;
     }
 }
 

@@ -35,10 +35,8 @@ pub(crate) fn look(plan: Plan, block: &Bytes, erased: &Bytes, r: usize) -> View 
         last: 0,
         sum: 0,
     };
-    let mut j: usize = 0;
-    while j < n {
+    for j in 0..n {
         found = with_place(found, place_on(plan, r, j), block, erased);
-        j += 1;
     }
     found
 }
@@ -66,11 +64,9 @@ pub(crate) fn in_turn(is_down: bool, k: usize, i: usize) -> usize {
 fn pass(plan: Plan, is_down: bool, block: &mut Bytes, erased: &mut Bytes) -> usize {
     let end = rows(plan);
     let mut settled: usize = 0;
-    let mut i: usize = 0;
-    while i < end {
+    for i in 0..end {
         let r = in_turn(is_down, end, i);
         settled = plus(settled, settle_row(plan, r, &mut *block, &mut *erased));
-        i += 1;
     }
     settled
 }
@@ -78,12 +74,10 @@ fn pass(plan: Plan, is_down: bool, block: &mut Bytes, erased: &mut Bytes) -> usi
 // Passes until one settles nothing. Every other settles a place, and no more than 2t can be settled.
 pub(crate) fn settle(plan: Plan, block: &mut Bytes, erased: &mut Bytes) {
     let end = plus(rows(plan), 1);
-    let mut i: usize = 0;
-    while i < end {
+    for i in 0..end {
         if pass(plan, i % 2 == 1, &mut *block, &mut *erased) == 0 {
             return;
         }
-        i += 1;
     }
 }
 
@@ -91,11 +85,9 @@ pub(crate) fn settle(plan: Plan, block: &mut Bytes, erased: &mut Bytes) {
 pub(crate) fn is_settled(plan: Plan, block: &Bytes, erased: &Bytes) -> bool {
     let end = rows(plan);
     let mut all = true;
-    let mut r: usize = 0;
-    while r < end {
+    for r in 0..end {
         let found = look(plan, block, erased, r);
         all = all & (found.erased == 0) & (found.sum == 0);
-        r += 1;
     }
     all
 }

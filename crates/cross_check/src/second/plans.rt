@@ -53,20 +53,16 @@ pub(crate) fn of(plan: Plan, lent: usize) -> Making {
 // The first n shifts, then zeros.
 fn first_shifts(plan: Plan) -> [u16; 32] {
     let mut shifts = [0u16; 32];
-    let mut j: usize = 0;
-    while j < 32 {
+    for j in 0..32 {
         shifts[j] = within(plan.n, j, shift(plan, j));
-        j += 1;
     }
     shifts
 }
 
 fn straight_shifts(n: usize) -> [u16; 32] {
     let mut shifts = [0u16; 32];
-    let mut j: usize = 0;
-    while j < 32 {
+    for j in 0..32 {
         shifts[j] = within(n, j, j);
-        j += 1;
     }
     shifts
 }
@@ -88,9 +84,7 @@ fn divides(d: usize, t: usize, q: usize) -> bool {
 // Whether a number above 1 divides both. No divisor of t is above t.
 fn have_factor(t: usize, q: usize) -> bool {
     let mut any = false;
-    let mut d: usize = 1;
-    while d < t {
-        d += 1;
+    for d in 2..=t {
         any = any | divides(d, t, q);
     }
     any
@@ -100,11 +94,9 @@ fn power_shifts(n: usize, t: usize, q: usize) -> [u16; 32] {
     let base = remainder(q, t);
     let mut shifts = [0u16; 32];
     let mut p = remainder(1, t);
-    let mut j: usize = 0;
-    while j < 32 {
+    for j in 0..32 {
         shifts[j] = within(n, j, p);
         p = remainder(times(p, base), t);
-        j += 1;
     }
     shifts
 }
@@ -135,10 +127,8 @@ fn ruler_entry(i: usize) -> usize {
 // Where the entry of n begins: the entries before it have 4, 5, 6 .. numbers.
 fn ruler_at(n: usize) -> usize {
     let mut at: usize = 0;
-    let mut k: usize = 3;
-    while k < n {
+    for k in 3..n {
         at = plus(at, plus(k, 1));
-        k += 1;
     }
     at
 }
@@ -146,10 +136,8 @@ fn ruler_at(n: usize) -> usize {
 fn ruler_shifts(n: usize) -> [u16; 32] {
     let at = plus(ruler_at(n), 1);
     let mut shifts = [0u16; 32];
-    let mut j: usize = 0;
-    while j < 32 {
+    for j in 0..32 {
         shifts[j] = within(n, j, ruler_entry(plus(at, j)));
-        j += 1;
     }
     shifts
 }

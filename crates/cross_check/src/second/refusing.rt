@@ -15,10 +15,8 @@ fn of_shifts(plan: Plan) -> usize {
     let n = plan.n;
     let t = plan.t;
     let mut any = false;
-    let mut j: usize = 0;
-    while j < n {
+    for j in 0..n {
         any = any | (t <= shift(plan, j));
-        j += 1;
     }
     times(2, any as usize)
 }
@@ -33,10 +31,8 @@ pub(crate) fn of_plan(plan: Plan) -> usize {
 // The number of bits that are 1 from place c up to the end.
 pub(crate) fn bits(marks: &Bytes, from: usize, end: usize) -> usize {
     let mut sum: usize = 0;
-    let mut c = from;
-    while c < end {
+    for c in from..end {
         sum = plus(sum, wide8(bit(marks, c)));
-        c += 1;
     }
     sum
 }

@@ -209,9 +209,7 @@ fn case(i: usize) -> usize {
 }
 
 pub(crate) fn all(tally: &mut Tally) {
-    let mut i: usize = 0;
-    while i < 104 {
+    for i in 0..104 {
         note(&mut *tally, case(i));
-        i += 1;
     }
 }

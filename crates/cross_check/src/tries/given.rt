@@ -24,12 +24,10 @@ fn shaped(style: usize, n: usize, t: usize, j: usize, p: usize) -> usize {
 fn shapes(style: usize, n: usize, t: usize, seed: u64) -> [u16; 32] {
     let mut shifts = [0u16; 32];
     let mut x = seed | 1;
-    let mut j: usize = 0;
-    while j < 32 {
+    for j in 0..32 {
         x = next(x);
         let p = remainder((x >> 24) as usize, t);
         shifts[j] = low16(shaped(style, n, t, j, p));
-        j += 1;
     }
     shifts
 }
@@ -217,10 +215,8 @@ fn mark(
 }
 
 fn mark_all(kind: usize, places: usize, t: usize, seed: u64, parity: &Bytes, marks: &mut Bytes) {
-    let mut c: usize = 0;
-    while c < places {
+    for c in 0..places {
         mark(kind, places, t, seed, c, parity, &mut *marks);
-        c += 1;
     }
 }
 
@@ -254,10 +250,8 @@ fn rub_one(marks: &Bytes, c: usize, seed: u64, block: &mut Bytes) {
 // Any symbols at the erased places.
 pub(crate) fn rub(plan: Plan, marks: &Bytes, seed: u64, block: &mut Bytes) {
     let places = least_of_places(plan);
-    let mut c: usize = 0;
-    while c < places {
+    for c in 0..places {
         rub_one(marks, c, seed, &mut *block);
-        c += 1;
     }
 }
 

@@ -30,19 +30,15 @@ fn get_line(line: &Line, i: usize) -> u8 {
 
 // The line holds the same bytes again and again.
 fn fill_line(held: &Bytes, line: &mut Line) {
-    let mut i: usize = 0;
-    while i < LINE {
+    for i in 0..LINE {
         put_line(&mut *line, i, get8(held, i % 32784));
-        i += 1;
     }
 }
 
 fn same_line(a: &Line, b: &Line) -> bool {
     let mut all = true;
-    let mut i: usize = 0;
-    while i < LINE {
+    for i in 0..LINE {
         all = all & (get_line(a, i) == get_line(b, i));
-        i += 1;
     }
     all
 }

@@ -10,10 +10,8 @@ use plan::{Count, Made, Plan};
 // All 32 shifts are compared.
 fn same_shifts(a: Plan, b: Plan) -> bool {
     let mut all = true;
-    let mut j: usize = 0;
-    while j < 32 {
+    for j in 0..32 {
         all = all & (shift(a, j) == shift(b, j));
-        j += 1;
     }
     all
 }
@@ -42,10 +40,8 @@ fn made_as(theirs: Made, mine: Making) -> usize {
 fn padded(plan: Plan) -> [u16; 40] {
     let s = plan.shifts;
     let mut shifts = [0u16; 40];
-    let mut j: usize = 0;
-    while j < 32 {
+    for j in 0..32 {
         shifts[j] = s[j];
-        j += 1;
     }
     shifts
 }

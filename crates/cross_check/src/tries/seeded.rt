@@ -150,13 +150,11 @@ fn one(kind: usize, most_n: usize, most_t: usize, seed: u64) -> usize {
 
 // Cases of one kind, by rising seeds.
 fn many(kind: usize, most_n: usize, most_t: usize, cases: u64, tally: &mut Tally) {
-    let mut i: u64 = 0;
-    while i < cases {
+    for i in 0..cases {
         note(
             &mut *tally,
             one(kind, most_n, most_t, seeded(i, kind as u64)),
         );
-        i += 1;
     }
 }
 
@@ -203,10 +201,8 @@ fn listed(i: usize) -> Cases {
 }
 
 pub(crate) fn all(tally: &mut Tally) {
-    let mut i: usize = 0;
-    while i < 17 {
+    for i in 0..17 {
         let next = listed(i);
         many(next.kind, next.most_n, next.most_t, next.count, &mut *tally);
-        i += 1;
     }
 }
