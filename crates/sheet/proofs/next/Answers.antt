@@ -14,7 +14,7 @@ slice_bounds-perform-start c = omega (arith, c.requires.0.1.inside)
 pub put_turn-requires : goal.put_turn-requires
 put_turn-requires c =
     let r = c.requires.0.1 in
-    let big : length c.args.job.now < 2 ^ 64 = omega (arith, c.well-formed) in
+    let big : length c.args.job.now < 2 ^ 64 = omega (arith, c.well_formed) in
     (turn_fits r c.requires.1 big (turned r c.requires.1 c.perform-step.ensures), r.room)
 
 pub shape_of-block : goal.shape_of-block
