@@ -22,3 +22,15 @@ returns-then-got-lt0 c =
 
 pub returns-then-input-end : goal.returns-then-input-end
 returns-then-input-end c = c.lost-then-input-end.ensures ∙ sym (full_lost _ _ _ c.if-input-end.true)
+
+pub returns : goal.returns
+unfolding brought_of
+returns c =
+    let i = c.args.input.now in
+    let end = c.args.stream.cursor.end in
+    let back = to_z-of_z c.ranges.got in
+    let some : lt_z c.args.got (pos 0) ≡ false = subst (λ z. lt_z z (pos 0) ≡ false) back c.if-got-lt0.false in
+    let room = lt-ltb end (length i) c.if-input-end.false in
+    c.taken.ensures
+    ∙ ap (taken_of c.args.stream) (c.count-count.ensures.value ∙ ap (λ z. clamp_len z (length (take (length i - end) (drop end i)))) back ∙ ap (clamp_len c.args.got) (back_long end i))
+    ∙ rw (some, room)

@@ -40,6 +40,9 @@ overflow_add-offset c = search rules
 pub take_turn-step-requires : goal.take_turn-step-requires
 take_turn-step-requires c = search rules
 
+pub after_turn-requires : goal.after_turn-requires
+after_turn-requires c = let r = (course_turn c.args.bytes.now c.args.offset c.args.at c.args.sheet.now c.args.to (c.args.to + line_length) c.requires.0 c.requires.2 refl (omega (arith, c.if-sheet-to-lt-LINE.false, c.requires.1)) c.take_turn-step.ensures).0 in (omega (arith, r.inside, c.requires.3), omega (arith, r.room, c.well_formed))
+
 pub shape_of-block : goal.shape_of-block
 shape_of-block c = search rules
 
