@@ -1,2 +1,3 @@
 pub mod PerformedLaws
 pub mod Struck
+pub mod StruckText
