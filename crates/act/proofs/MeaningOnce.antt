@@ -1,10 +1,9 @@
 -- A command that is not refused means one thing: one state after it and one text. And it keeps a state standing.
 -- Main definition: Standing. Main results: means_stands, means_once.
-use Rattle.std.specs.Prelude.{◌≡◌, refl, true, List, [], ◌∷◌, map, ℕ, length, replicate}
+use Rattle.std.specs.Prelude.{◌≡◌, refl, true, List, [], ◌∷◌, map, ℕ, length, replicate, Ok}
 use Rattle.std.proofs.Common.{sym, ◌∙◌, ap, ap₂, subst}
-use Rattle.refusals.specs.declared.Check.TheVariants.{Pass}
-use Rattle.plan.specs.Plans.{blank_of, layout_of, plan_check, straight_of, powers_of, ruler_of}
-use Rattle.plan.proofs.PlanLaws.{good_valid, shift_good}
+use Rattle.plan.specs.Plans.{plan_in, blank_of, layout_of, plan_check, straight_of, powers_of, ruler_of}
+use Rattle.plan.proofs.PlanLaws.{good_valid, shift_good, answer_good}
 use Rattle.plan.specs.declared.Plan.{Plan}
 use Rattle.code.specs.Codewords.{at}
 use Rattle.code.specs.Marks.{mark_bytes}
@@ -30,11 +29,11 @@ use Rattle.act.proofs.ActLaws.{blank_makes, straight_makes, powers_makes, ruler_
 
 -- a state that a job can be in: a plan that is held is good
 pub record Standing (s : State) : Type 0 where
-  pub good : s.planned ≡ true → plan_check s.plan ≡ Pass
+  pub good : s.planned ≡ true → plan_check s.plan ≡ Ok tt
 
 -- ---- standing is kept
 
-fresh_stands : {s : State} (p : Plan) → plan_check p ≡ Pass → s ≡ fresh p → Standing s
+fresh_stands : {s : State} (p : Plan) → plan_check p ≡ Ok tt → s ≡ fresh p → Standing s
 unfolding fresh
 fresh_stands p g e = rw e (record { good = λ _. g })
 
@@ -55,9 +54,9 @@ recovering_stands {s} {s'} k planned r = go r.answer refl
     go (recovery.Refused x) e = absurd (r.decides.not_refused x e)
 
 -- a command that is not refused keeps a state standing
-pub means_stands : {s s' : State} (text : List ℕ) → Standing s → (c : Command) → refusal_of s c ≡ Pass → Means c s s' text → Standing s'
+pub means_stands : {s s' : State} (text : List ℕ) → Standing s → (c : Command) → refusal_of s c ≡ Ok tt → Means c s s' text → Standing s'
 unfolding Means with_plan refusal_of
-means_stands {s} text k (NewPlan n t) e m = fresh_stands (blank_of n t).plan ((blank_makes n t).good e) m.0
+means_stands {s} text k (NewPlan n t) e m = fresh_stands (plan_in (blank_of n t)) (answer_good _ ((blank_makes n t).good) e) m.0
 means_stands {s} text k (SetShift j p) e m = let h = shift_inside s j p e in rw m.0 (record { good = λ _. shift_good s.plan j p (k.good h.0) h.2 })
 means_stands {s} text k (SetSymbol c v) e m = block_stands _ _ k (place_inside s c v e).0 m.0.state
 means_stands {s} text k (MarkOne c) e m = block_stands _ _ k (mark_inside s c e).0 m.0.state
@@ -66,9 +65,9 @@ means_stands {s} text k Recover e m = recovering_stands k (recover_planned s e) 
 means_stands {s} text k Seal e m = block_stands _ _ k (seal_planned s e) m.state
 means_stands {s} text k (Show c) e m = same_stands k m.0
 means_stands {s} text k Figures e m = same_stands k m.state
-means_stands {s} text k (Straight n t) e m = fresh_stands (straight_of n t).plan ((straight_makes n t).good e) m.0
-means_stands {s} text k (Powers n t q) e m = fresh_stands (powers_of n t q).plan ((powers_makes n t q).good e) m.0
-means_stands {s} text k (Ruler n) e m = fresh_stands (ruler_of n).plan ((ruler_makes n).good e) m.0
+means_stands {s} text k (Straight n t) e m = fresh_stands (plan_in (straight_of n t)) (answer_good _ ((straight_makes n t).good) e) m.0
+means_stands {s} text k (Powers n t q) e m = fresh_stands (plan_in (powers_of n t q)) (answer_good _ ((powers_makes n t q).good) e) m.0
+means_stands {s} text k (Ruler n) e m = fresh_stands (plan_in (ruler_of n)) (answer_good _ ((ruler_makes n).good) e) m.0
 means_stands {s} text k Fetch e m = same_stands k m.stays
 
 -- ---- one meaning
@@ -94,7 +93,7 @@ listing_once p q =
     (p.stays ∙ sym q.stays, p.says ∙ ap (λ l. line fetch_word (length l ∷ l)) e ∙ sym q.says)
 
 -- the one codeword that carries the data
-sealing_once : {s a b : State} {x y : List ℕ} → plan_check s.plan ≡ Pass → Sealing s a x → Sealing s b y → (a ≡ b) × (x ≡ y)
+sealing_once : {s a b : State} {x y : List ℕ} → plan_check s.plan ≡ Ok tt → Sealing s a x → Sealing s b y → (a ≡ b) × (x ≡ y)
 sealing_once {s} {a} {b} {x} {y} good p q =
     let e : p.places ≡ q.places = lists_unique p.message_places q.message_places in
     let f : p.block ≡ q.block =
@@ -105,7 +104,7 @@ sealing_once {s} {a} {b} {x} {y} good p q =
     )
 
 -- recovery decides one way, and shows one list
-recovering_once : {s a b : State} {x y : List ℕ} → plan_check s.plan ≡ Pass → Recovering s a x → Recovering s b y → (a ≡ b) × (x ≡ y)
+recovering_once : {s a b : State} {x y : List ℕ} → plan_check s.plan ≡ Ok tt → Recovering s a x → Recovering s b y → (a ≡ b) × (x ≡ y)
 recovering_once {s} {a} {b} {x} {y} good p q =
     let o = decides_once (good_valid s.plan good) (erasures_erased (layout_of s.plan) s.marks) p.decides q.decides in
     let f = recovering_is p in
@@ -113,7 +112,7 @@ recovering_once {s} {a} {b} {x} {y} good p q =
     (f.1 ∙ ap₂ (recovery_state s) o.0 o.1 ∙ sym g.1, f.0 ∙ ap₂ (recovery_line s) o.0 o.2 ∙ sym g.0)
 
 -- a command that is not refused leaves one state and writes one text
-pub means_once : {s a b : State} {x y : List ℕ} → Standing s → (c : Command) → refusal_of s c ≡ Pass → Means c s a x → Means c s b y → (a ≡ b) × (x ≡ y)
+pub means_once : {s a b : State} {x y : List ℕ} → Standing s → (c : Command) → refusal_of s c ≡ Ok tt → Means c s a x → Means c s b y → (a ≡ b) × (x ≡ y)
 unfolding Means
 means_once {s} k (NewPlan n t) e p q = both p q
 means_once {s} k (SetShift j d) e p q = both p q

@@ -1,7 +1,7 @@
 -- What a command that is not refused says of the plan; the parts of the lent buffers that are the state.
 -- Main results: place_inside, mark_inside, show_inside, run_inside, shift_inside; places_most, bytes_most;
 -- cleared_front, part_rest, begun, marked_take, marked_rest.
-use Rattle.std.specs.Prelude.{◌≡◌, refl, Bool, true, false, List, ◌++◌, ℕ, ◌+◌, ◌-◌, ◌*◌, ◌/◌, ◌%◌, ◌≤◌, ◌<◌, min, length, get_or, take, drop, replicate}
+use Rattle.std.specs.Prelude.{Some, ◌≡◌, refl, Bool, true, false, List, ◌++◌, ℕ, ◌+◌, ◌-◌, ◌*◌, ◌/◌, ◌%◌, ◌≤◌, ◌<◌, min, length, get_or, take, drop, replicate, Ok}
 use Rattle.std.proofs.Common.{sym, ◌∙◌, ap, inr, arith, length-take, length-drop, take_at, drop_at, length-take-le, get_or-take, get_or-drop, ext_get_or}
 use Rattle.std.proofs.Math.Logic.{by_cases}
 use Rattle.std.proofs.Math.Decide.{dec_lt}
@@ -9,10 +9,9 @@ use Rattle.std.proofs.lemmas.List.{length-replicate}
 use Rattle.std.proofs.Math.ListN.{get_or-eq_default}
 use Rattle.std.proofs.Math.Seq.{length_front}
 use borrow.Author.Tests.{ltb-true, leb-true}
-use Rattle.refusals.specs.declared.Check.TheVariants.{Pass}
 use Rattle.refusals.proofs.RefusalLaws.{pass_not_stop, unless_pass}
 use Rattle.refusals.specs.declared.Refusal.TheVariants.{Early, Shift}
-use Rattle.refusals.specs.declared.Check.{Check}
+use Rattle.refusals.specs.Refusals.{Check}
 use Rattle.plan.specs.Layout.{layout}
 use Rattle.plan.specs.Plans.{layout_of, plan_check}
 use Rattle.plan.proofs.PlanLaws.{good_bounds}
@@ -26,56 +25,55 @@ use Rattle.bits.specs.Bits.{Marked}
 use Rattle.state.specs.Refusing.{early, refusal_of}
 use Rattle.bits.specs.MarkedLaws.{Bytes, no_marks_no_spare}
 use Rattle.act.specs.Acts.{state_of, Kept, Rest, block_length, marks_length}
-use Rattle.act.specs.declared.Held.{Held}
 
 -- ---- a command that is not refused
 
-not_early : (a b : Bool) (x : Check) → early a b x ≡ Pass → (a ≡ true) × (b ≡ true) × (x ≡ Pass)
+not_early : (a b : Bool) (x : Check) → early a b x ≡ Ok tt → (a ≡ true) × (b ≡ true) × (x ≡ Ok tt)
 unfolding early
 not_early true true x e = (refl, refl, e)
 not_early true false x e = absurd (pass_not_stop Early (sym e))
 not_early false b x e = absurd (pass_not_stop Early (sym e))
 
 module _ (s : State) where
-  pub place_inside : (c v : ℕ) → refusal_of s (SetSymbol c v) ≡ Pass → (s.planned ≡ true) × (c < s.plan.n * s.plan.t)
+  pub place_inside : (c v : ℕ) → refusal_of s (SetSymbol c v) ≡ Ok tt → (s.planned ≡ true) × (c < s.plan.n * s.plan.t)
   unfolding refusal_of
   place_inside c v e = let r = not_early _ _ _ e in (r.0, ltb-true _ _ r.1)
 
-  pub mark_inside : (c : ℕ) → refusal_of s (MarkOne c) ≡ Pass → (s.planned ≡ true) × (c < s.plan.n * s.plan.t)
+  pub mark_inside : (c : ℕ) → refusal_of s (MarkOne c) ≡ Ok tt → (s.planned ≡ true) × (c < s.plan.n * s.plan.t)
   unfolding refusal_of
   mark_inside c e = let r = not_early _ _ _ e in (r.0, ltb-true _ _ r.1)
 
-  pub show_inside : (c : ℕ) → refusal_of s (Show c) ≡ Pass → (s.planned ≡ true) × (c < s.plan.n * s.plan.t)
+  pub show_inside : (c : ℕ) → refusal_of s (Show c) ≡ Ok tt → (s.planned ≡ true) × (c < s.plan.n * s.plan.t)
   unfolding refusal_of
   show_inside c e = let r = not_early _ _ _ e in (r.0, ltb-true _ _ r.1)
 
-  pub run_inside : (c m : ℕ) → refusal_of s (MarkRun c m) ≡ Pass → (s.planned ≡ true) × (c + m ≤ s.plan.n * s.plan.t)
+  pub run_inside : (c m : ℕ) → refusal_of s (MarkRun c m) ≡ Ok tt → (s.planned ≡ true) × (c + m ≤ s.plan.n * s.plan.t)
   unfolding refusal_of
   run_inside c m e = let r = not_early _ _ _ e in (r.0, leb-true _ _ r.1)
 
-  pub shift_inside : (j p : ℕ) → refusal_of s (SetShift j p) ≡ Pass → (s.planned ≡ true) × (j < s.plan.n) × (p < s.plan.t)
+  pub shift_inside : (j p : ℕ) → refusal_of s (SetShift j p) ≡ Ok tt → (s.planned ≡ true) × (j < s.plan.n) × (p < s.plan.t)
   unfolding refusal_of
   shift_inside j p e = let r = not_early _ _ _ e in (r.0, ltb-true _ _ r.1, ltb-true _ _ (unless_pass _ Shift r.2))
 
-  pub recover_planned : refusal_of s Recover ≡ Pass → s.planned ≡ true
+  pub recover_planned : refusal_of s Recover ≡ Ok tt → s.planned ≡ true
   unfolding refusal_of
   recover_planned e = (not_early _ _ _ e).0
 
-  pub seal_planned : refusal_of s Seal ≡ Pass → s.planned ≡ true
+  pub seal_planned : refusal_of s Seal ≡ Ok tt → s.planned ≡ true
   unfolding refusal_of
   seal_planned e = (not_early _ _ _ e).0
 
-  pub figures_planned : refusal_of s Figures ≡ Pass → s.planned ≡ true
+  pub figures_planned : refusal_of s Figures ≡ Ok tt → s.planned ≡ true
   unfolding refusal_of
   figures_planned e = (not_early _ _ _ e).0
 
-  pub fetch_planned : refusal_of s Fetch ≡ Pass → s.planned ≡ true
+  pub fetch_planned : refusal_of s Fetch ≡ Ok tt → s.planned ≡ true
   unfolding refusal_of
   fetch_planned e = (not_early _ _ _ e).0
 
 -- ---- the lengths
 
-module _ (p : Plan) (g : plan_check p ≡ Pass) where
+module _ (p : Plan) (g : plan_check p ≡ Ok tt) where
   pub places_most : p.n * p.t ≤ block_length
   places_most = (good_bounds p g).places_max
 
@@ -110,13 +108,10 @@ part_rest k v a h e = drop_at a (drop k v) k (e ∙ length-take-le k v h)
 
 -- ---- a new plan
 
-abbrev pub holding : Plan → Held
-holding p = record { planned = true; plan = p }
-
-pub begun : (p : Plan) (v m v' m' : List ℕ) → plan_check p ≡ Pass → length v' ≡ block_length → length m' ≡ marks_length →
+pub begun : (p : Plan) (v m v' m' : List ℕ) → plan_check p ≡ Ok tt → length v' ≡ block_length → length m' ≡ marks_length →
     take (p.n * p.t) v' ≡ replicate (p.n * p.t) 0 → take ((p.n * p.t + 7) / 8) m' ≡ replicate ((p.n * p.t + 7) / 8) 0 →
     drop (p.n * p.t) v' ≡ drop (p.n * p.t) v → drop ((p.n * p.t + 7) / 8) m' ≡ drop ((p.n * p.t + 7) / 8) m →
-    (state_of (holding p) v' m' ≡ fresh p) × Kept (holding p) v' m' × Rest (holding p) v m v' m'
+    (state_of (Some p) v' m' ≡ fresh p) × Kept (Some p) v' m' × Rest (Some p) v m v' m'
 unfolding state_of fresh mark_bytes layout_of layout
 begun p v m v' m' g a b e f x y = (
   rw (e, f),

@@ -1,6 +1,6 @@
 -- What each command means on a state and writes (01, "The job and its sheet"; document 02 for 0D).
 use Rattle.std.specs.Prelude.{◌≡◌, List, [], ◌∷◌, map, ℕ, length, set, take, replicate}
-use Rattle.plan.specs.Plans.{with_shift, layout_of, blank_of, straight_of, powers_of, ruler_of}
+use Rattle.plan.specs.Plans.{with_shift, plan_in, layout_of, blank_of, straight_of, powers_of, ruler_of}
 use Rattle.code.specs.Codewords.{at}
 use Rattle.code.specs.Marks.{mark_bytes, erasures}
 use Rattle.code.specs.Messages.{Message, Lists, Carries}
@@ -61,7 +61,7 @@ pub record Marking (s s' : State) (v : List ℕ) (c k b : ℕ) : Type 0 where
 
 -- what a command that is not refused means: the state after it and what it writes
 unfoldable pub Means : Command → State → State → List ℕ → Type 0
-Means (NewPlan n t) s s' text = (s' ≡ fresh (blank_of n t).plan) × (text ≡ [])
+Means (NewPlan n t) s s' text = (s' ≡ fresh (plan_in (blank_of n t))) × (text ≡ [])
 Means (SetShift j p) s s' text = (s' ≡ with_plan s (with_shift s.plan j p)) × (text ≡ [])
 Means (SetSymbol c v) s s' text = Marking s s' (set s.block c v) c 1 0 × (text ≡ [])
 Means (MarkOne c) s s' text = Marking s s' s.block c 1 1 × (text ≡ [])
@@ -70,7 +70,7 @@ Means Recover s s' text = Recovering s s' text
 Means Seal s s' text = Sealing s s' text
 Means (Show c) s s' text = (s' ≡ s) × (text ≡ line symbol_word (c ∷ at s.block c ∷ []))
 Means Figures s s' text = Figuring s s' text
-Means (Straight n t) s s' text = (s' ≡ fresh (straight_of n t).plan) × (text ≡ [])
-Means (Powers n t q) s s' text = (s' ≡ fresh (powers_of n t q).plan) × (text ≡ [])
-Means (Ruler n) s s' text = (s' ≡ fresh (ruler_of n).plan) × (text ≡ [])
+Means (Straight n t) s s' text = (s' ≡ fresh (plan_in (straight_of n t))) × (text ≡ [])
+Means (Powers n t q) s s' text = (s' ≡ fresh (plan_in (powers_of n t q))) × (text ≡ [])
+Means (Ruler n) s s' text = (s' ≡ fresh (plan_in (ruler_of n))) × (text ≡ [])
 Means Fetch s s' text = Listing s s' text

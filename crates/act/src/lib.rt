@@ -10,13 +10,6 @@ use plan::Plan;
 pub mod plans;
 pub mod symbols;
 
-// The plan of a job, or none.
-#[derive(Clone, Copy)]
-pub struct Held {
-    pub planned: bool,
-    pub plan: Plan,
-}
-
 // The lengths of the buffers: the largest block, and its marks.
 pub const BLOCK: usize = Plan::MAX_PLACES;
 

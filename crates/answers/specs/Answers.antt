@@ -1,15 +1,11 @@
--- The number and values of the answers of recover, encode, message_of and fetch.
+-- The number and values of the answers of recover and message_of.
 use Rattle.std.specs.Prelude.{ℕ}
 use Rattle.refusals.specs.Refusals.{number_of}
 use Rattle.refusals.specs.declared.Refusal.TheVariants as refusal
 use Rattle.answers.specs.declared.Recovery.{Recovery}
 use Rattle.answers.specs.declared.Recovery.TheVariants as recovery
-use Rattle.answers.specs.declared.Encoding.{Encoding}
-use Rattle.answers.specs.declared.Encoding.TheVariants as encoding
 use Rattle.answers.specs.declared.Reading.{Reading}
 use Rattle.answers.specs.declared.Reading.TheVariants as reading
-use Rattle.answers.specs.declared.Fetching.{Fetching}
-use Rattle.answers.specs.declared.Fetching.TheVariants as fetching
 
 abbrev pub recovery_number : Recovery → ℕ
 recovery_number recovery.Recovered = 0
@@ -24,20 +20,7 @@ recovery_count (recovery.Crossed z) = z
 recovery_count (recovery.Loose z) = z
 recovery_count (recovery.Refused x) = 0
 
-abbrev pub encoding_number : Encoding → ℕ
-encoding_number encoding.Encoded = 0
-encoding_number (encoding.Refused x) = number_of x
-
 abbrev pub reading_number : Reading → ℕ
 reading_number reading.Read = 0
 reading_number reading.Crossed = number_of refusal.Crossed
 reading_number (reading.Refused x) = number_of x
-
-abbrev pub fetching_number : Fetching → ℕ
-fetching_number (fetching.Fetched z) = 0
-fetching_number (fetching.Refused x) = number_of x
-
--- the number of places on the list
-abbrev pub fetching_count : Fetching → ℕ
-fetching_count (fetching.Fetched z) = z
-fetching_count (fetching.Refused x) = 0

@@ -1,9 +1,10 @@
-// The answers of recover, encode, message_of and fetch. What they promise is in the crate promises.
-// Entries: Recovery::number, Recovery::count, Encoding::number, Reading::number, Fetching::number, Fetching::count.
+// The answers of recover and message_of, which say more than that a call is refused: crossed and loose are no refusals of the call. encode and fetch answer with a Result.
+// What they promise is in the crate promises.
+// Entries: Recovery::number, Recovery::count, Reading::number.
 #![tactic(auto)]
 
 ghost use Rattle.std.specs.Prelude.{◌≡◌};
-ghost use Rattle.answers.specs.Answers.{recovery_number, recovery_count, encoding_number, reading_number, fetching_number, fetching_count};
+ghost use Rattle.answers.specs.Answers.{recovery_number, recovery_count, reading_number};
 
 use refusals::Refusal;
 
@@ -16,21 +17,9 @@ pub enum Recovery {
 }
 
 #[derive(Clone, Copy)]
-pub enum Encoding {
-    Encoded,
-    Refused(Refusal),
-}
-
-#[derive(Clone, Copy)]
 pub enum Reading {
     Read,
     Crossed,
-    Refused(Refusal),
-}
-
-#[derive(Clone, Copy)]
-pub enum Fetching {
-    Fetched(usize),
     Refused(Refusal),
 }
 
@@ -59,17 +48,6 @@ impl Recovery {
     }
 }
 
-impl Encoding {
-    pub fn number(self) -> u8
-        ensures { result ≡ encoding_number self }
-    {
-        match self {
-            Encoding::Encoded => 0,
-            Encoding::Refused(x) => x.number(),
-        }
-    }
-}
-
 impl Reading {
     pub fn number(self) -> u8
         ensures { result ≡ reading_number self }
@@ -78,27 +56,6 @@ impl Reading {
             Reading::Read => 0,
             Reading::Crossed => Refusal::Crossed.number(),
             Reading::Refused(x) => x.number(),
-        }
-    }
-}
-
-impl Fetching {
-    pub fn number(self) -> u8
-        ensures { result ≡ fetching_number self }
-    {
-        match self {
-            Fetching::Fetched(_) => 0,
-            Fetching::Refused(x) => x.number(),
-        }
-    }
-
-    // The number of places on the list.
-    pub fn count(self) -> usize
-        ensures { result ≡ fetching_count self }
-    {
-        match self {
-            Fetching::Fetched(z) => z,
-            Fetching::Refused(_) => 0,
         }
     }
 }

@@ -1,5 +1,5 @@
 -- Marks set and cleared, one by one and by the byte, and runs of marks put together.
--- Main results: bytes_set, marked_none, marked_one, marked_puts, marked_set, marked_clear, marked_byte, marked_both, marked_next, marked_three, marked_no_spare, no_marks_no_spare.
+-- Main results: bytes_set, marked_none, marked_one, marked_puts, marked_set, marked_clear, marked_byte, marked_both, marked_no_spare, no_marks_no_spare.
 use Rattle.std.specs.Prelude.{◌≡◌, refl, ◌≢◌, List, ℕ, zero, suc, ◌+◌, ◌-◌, ◌*◌, ◌/◌, ◌%◌, ◌^◌, ◌≤◌, ◌<◌, length, get_or, set, replicate}
 use Rattle.std.proofs.Common.{sym, ◌∙◌, ap, subst, inl, inr, ⊎_elim, mod-lt, one-mul, arith, length-set, get_or-set_same, get_or-set_other, shl_exact}
 use Rattle.std.proofs.Math.Logic.{by_cases}
@@ -68,19 +68,6 @@ marked_both {m} {m'} {m''} {c} {k} {j} {b} {e} p q f =
           (λ h. q.others d (inl (omega arith)) ∙ p.others d (inl h))
           (λ h. q.others d (inr (omega arith)) ∙ p.others d (inr (omega arith))) o;
     }
-
--- one more stretch of a run
-pub marked_next : {m m' m'' : List ℕ} {c d e b : ℕ} → c ≤ d → d ≤ e → Marked m c (d - c) b m' → Marked m' d (e - d) b m'' → Marked m c (e - c) b m''
-marked_next {m} {m'} {m''} {c} {d} {e} {b} g h p q =
-    let f : d - c + (e - d) ≡ e - c = omega arith in
-    let l : d ≡ c + (d - c) = omega arith in
-    subst (λ x. Marked m c x b m'') f (marked_both p q l)
-
--- a run of three stretches
-pub marked_three : {m m' m'' m''' : List ℕ} {c d e i j k b : ℕ} (n : ℕ) → Marked m c i b m' → Marked m' d j b m'' → Marked m'' e k b m'''
-    → d ≡ c + i → e ≡ d + j → n ≡ i + j + k → Marked m c n b m'''
-marked_three {m} {m'} {m''} {m'''} {c} {d} {e} {i} {j} {k} {b} n p q r f g h =
-    subst (λ x. Marked m c x b m''') (sym h) (marked_both (marked_both p q f) r (omega arith))
 
 -- one bit set or cleared, as the code stores it
 pub marked_set : (m : List ℕ) (c : ℕ) → c / 8 < length m → Bytes m → Marked m c 1 1 (set m (c / 8) (bit_or (get_or m (c / 8) 0) (1 * 2 ^ (c % 8) % 2 ^ 8)))

@@ -1,7 +1,9 @@
 -- A short run of marks set by one word of four bytes: the run as a number, and the bytes of the word stored.
--- Main results: run_shifted, stored_four, marked_short.
-use Rattle.std.specs.Prelude.{◌≡◌, refl, ◌⊎◌, ◌≢◌, List, ℕ, ◌+◌, ◌-◌, ◌*◌, ◌/◌, ◌%◌, ◌^◌, ◌≤◌, ◌<◌, max, length, set}
-use Rattle.std.proofs.Common.{sym, ◌∙◌, ap, ap₂, subst, inl, inr, ⊎_elim, one-mul, arith, length-set, pow_pos, shl_exact, get_or-set_same, get_or-set_other}
+-- Main results: stored_bytes, marked_short.
+use Rattle.std.specs.Prelude.{◌≡◌, refl, ◌⊎◌, List, ◌++◌, ℕ, zero, suc, ◌+◌, ◌-◌, ◌*◌, ◌/◌, ◌%◌, ◌^◌, ◌≤◌, ◌<◌, max, length, get_or, take, drop}
+use Rattle.std.specs.Int.{to_le_bytes, w64}
+use Rattle.std.proofs.Common.{sym, ◌∙◌, ap, ap₂, inl, inr, ⊎_elim, arith, length-append, length-drop, length-take-le, pow_pos, get_or-append-add, get_or-drop, get_or-take}
+use Rattle.std.proofs.Math.ListN.{get_or-append}
 use Rattle.std.proofs.Math.Logic.{by_cases}
 use Rattle.std.proofs.Math.Nat.{zero-div}
 use Rattle.std.proofs.Math.Decide.{dec_lt}
@@ -30,15 +32,6 @@ run_out k s b o =
     let l : 2 ^ k - 1 < 2 ^ k = omega (arith, pow_pos k) in
     ap (λ x. bit_of x ((2 ^ k - 1) * 2 ^ s)) e ∙ bit_raised s (b - s) (2 ^ k - 1) ∙ bit_beyond k (b - s) (2 ^ k - 1) l (omega arith)) o
 
--- as the code shifts it
-pub one_shifted : (k : ℕ) → k < 64 → 1 * 2 ^ k % 2 ^ 64 ≡ 2 ^ k
-one_shifted k h = shl_exact 1 k 64 (omega arith) (omega arith) ∙ one-mul (2 ^ k)
-
-pub run_shifted : (k s : ℕ) → k + s ≤ 32 → (1 * 2 ^ k % 2 ^ 64 - 1) * 2 ^ s % 2 ^ 64 ≡ (2 ^ k - 1) * 2 ^ s
-run_shifted k s h =
-    let l : 2 ^ k - 1 < 2 ^ k = omega (arith, pow_pos k) in
-    rw (one_shifted k (omega arith)) (shl_exact k s 64 l (omega arith))
-
 -- ---- bytes stored
 
 -- marks m' are m with the k bytes from byte i on those of w, lowest first
@@ -46,9 +39,6 @@ pub record Stored (m : List ℕ) (i k w : ℕ) (m' : List ℕ) : Type 0 where
   pub long : length m' ≡ length m
   pub these : (b : ℕ) → b < 8 * k → mark m' (8 * i + b) ≡ bit_of b w
   pub others : (d : ℕ) → (d < 8 * i) ⊎ (8 * (i + k) ≤ d) → mark m' d ≡ mark m d
-
-stored_none : (m : List ℕ) (i w : ℕ) → Stored m i 0 w m
-stored_none m i w = record { long = refl; these = λ b l. absurd (omega arith); others = λ d o. refl }
 
 -- a bit below the width of a remainder
 low_bit : (b j x : ℕ) → bit_of b (x % 2 ^ (j + 1 + b)) ≡ bit_of b x
@@ -60,40 +50,59 @@ byte_bit a b w h =
     let e : 8 ≡ 7 - b + 1 + b = omega arith in
     ap (λ x. bit_of b (w / 2 ^ a % 2 ^ x)) e ∙ low_bit b (7 - b) (w / 2 ^ a) ∙ bit_shifted a b w
 
-apart : (m : List ℕ) (i x d : ℕ) → d / 8 ≢ i → mark (set m i x) d ≡ mark m d
+same_byte : (m m' : List ℕ) (d : ℕ) → get_or m' (d / 8) 0 ≡ get_or m (d / 8) 0 → mark m' d ≡ mark m d
 unfolding mark
-apart m i x d n = ap (bit_of (d % 8)) (get_or-set_other m i (d / 8) x 0 n)
+same_byte m m' d f = ap (bit_of (d % 8)) f
 
--- the next byte of w is stored behind them
-stored_more : {m m' : List ℕ} {i k w : ℕ} (x : ℕ) → Stored m i k w m' → i + k < length m → x ≡ w / 2 ^ (8 * k) % 256
-    → Stored m i (k + 1) w (set m' (i + k) x)
-stored_more {m} {m'} {i} {k} {w} x S h e =
+-- k bytes copied into the marks from byte i on, which are those of w
+pub stored_bytes : {m m' : List ℕ} {i k w : ℕ} (bytes : List ℕ) → length bytes ≡ k → ((j : ℕ) → j < k → get_or bytes j 0 ≡ w / 2 ^ (8 * j) % 256)
+    → i + k ≤ length m → m' ≡ take i m ++ (bytes ++ drop (i + k - i) (drop i m)) → Stored m i k w m'
+stored_bytes {m} {m'} {i} {k} {w} bytes len e h q =
     record {
-      long = length-set m' (i + k) x ∙ S.long;
-      these = λ b l. by_cases (dec_lt b (8 * k))
-          (λ g. apart m' (i + k) x (8 * i + b) (λ f. omega arith) ∙ S.these b g)
-          (λ g. last b (b - 8 * k) (omega arith) (omega arith));
-      others = λ d o. apart m' (i + k) x d (λ f. ⊎_elim (λ g. omega arith) (λ g. omega arith) o)
-          ∙ S.others d (⊎_elim inl (λ g. inr (omega arith)) o);
+      long = ap length q ∙ length-append (take i m) (bytes ++ rest) ∙ ap₂ ◌+◌ front (length-append bytes rest ∙ ap₂ ◌+◌ len back) ∙ omega arith;
+      these = λ b l. these b (b / 8) (b % 8) (omega arith) (omega arith) (omega arith);
+      others = λ d o. same_byte m m' d
+          (⊎_elim (λ g. before (d / 8) (omega arith)) (λ g. after (d / 8) (d / 8 - (i + k)) (omega arith)) o);
     }
   where
-    last : (b d : ℕ) → b ≡ 8 * k + d → d < 8 → mark (set m' (i + k) x) (8 * i + b) ≡ bit_of b w
-    last b d f g =
-        let q : 8 * i + b ≡ 8 * (i + k) + d = omega arith in
-        ap (mark (set m' (i + k) x)) q
-        ∙ mark_at (set m' (i + k) x) (i + k) d g
-        ∙ ap (bit_of d) (get_or-set_same m' (i + k) x 0 (omega (arith, S.long)) ∙ e)
-        ∙ byte_bit (8 * k) d w g ∙ ap (λ y. bit_of y w) (sym f)
+    rest : List ℕ
+    rest = drop (i + k - i) (drop i m)
 
-pub stored_four : (m : List ℕ) (i w : ℕ) → i + 4 ≤ length m
-    → Stored m i 4 w (set (set (set (set m i (w % 256)) (i + 1) (w / 2 ^ 8 % 256)) (i + 2) (w / 2 ^ 16 % 256)) (i + 3) (w / 2 ^ 24 % 256))
-stored_four m i w h =
-    let q : i + 0 ≡ i = omega arith in
-    let f : w % 256 ≡ w / 2 ^ (8 * 0) % 256 = omega arith in
-    let S₁ : Stored m i 1 w (set m i (w % 256)) = subst (λ j. Stored m i 1 w (set m j (w % 256))) q (stored_more (w % 256) (stored_none m i w) (omega arith) f) in
-    let S₂ = stored_more (w / 2 ^ 8 % 256) S₁ (omega arith) refl in
-    let S₃ = stored_more (w / 2 ^ 16 % 256) S₂ (omega arith) refl in
-    stored_more (w / 2 ^ 24 % 256) S₃ (omega arith) refl
+    front : length (take i m) ≡ i
+    front = length-take-le i m (omega arith)
+
+    back : length rest ≡ length m - i - (i + k - i)
+    back = length-drop (i + k - i) (drop i m) ∙ ap (λ x. x - (i + k - i)) (length-drop i m)
+
+    -- entry i + j of the new list is entry j behind the front
+    behind : (j : ℕ) → get_or m' (i + j) 0 ≡ get_or (bytes ++ rest) j 0
+    behind j =
+        ap (λ l. get_or l (i + j) 0) q ∙ ap (λ x. get_or (take i m ++ (bytes ++ rest)) (x + j) 0) (sym front)
+        ∙ get_or-append-add (take i m) (bytes ++ rest) j 0
+
+    these : (b j d : ℕ) → b ≡ 8 * j + d → j < k → d < 8 → mark m' (8 * i + b) ≡ bit_of b w
+    these b j d f g l =
+        let p : 8 * i + b ≡ 8 * (i + j) + d = omega arith in
+        let byte : get_or m' (i + j) 0 ≡ w / 2 ^ (8 * j) % 256 = behind j ∙ get_or-append bytes rest 0 j (rw len g) ∙ e j g in
+        ap (mark m') p ∙ mark_at m' (i + j) d l ∙ ap (bit_of d) byte ∙ byte_bit (8 * j) d w l ∙ ap (λ y. bit_of y w) (sym f)
+
+    before : (r : ℕ) → r < i → get_or m' r 0 ≡ get_or m r 0
+    before r l = ap (λ x. get_or x r 0) q ∙ get_or-append (take i m) (bytes ++ rest) 0 r (rw front l) ∙ get_or-take i m r 0 l
+
+    after : (r j : ℕ) → r ≡ i + k + j → get_or m' r 0 ≡ get_or m r 0
+    after r j f =
+        let a : r ≡ i + (k + j) = omega arith in
+        let b : i + (i + k - i + j) ≡ r = omega arith in
+        ap (λ x. get_or m' x 0) a ∙ behind (k + j) ∙ ap (λ x. get_or (bytes ++ rest) (x + j) 0) (sym len) ∙ get_or-append-add bytes rest j 0
+        ∙ get_or-drop (i + k - i) (drop i m) j 0 ∙ get_or-drop i m (i + k - i + j) 0 ∙ ap (λ x. get_or m x 0) b
+
+-- the lowest four bytes of w, as `to_le_bytes` gives them
+pub low_four : (w j : ℕ) → j < 4 → get_or (take 4 (to_le_bytes w64 w)) j 0 ≡ w / 2 ^ (8 * j) % 256
+low_four w zero h = omega arith
+low_four w (suc zero) h = refl
+low_four w (suc (suc zero)) h = refl
+low_four w (suc (suc (suc zero))) h = refl
+low_four w (suc (suc (suc (suc j)))) h = absurd (omega arith)
 
 -- ---- the run: the word with the ones put in it
 

@@ -1,11 +1,13 @@
 -- Marks read eight bytes at a time: the bits of a word are the marks of 64 places.
--- Main results: lanes_begin, lanes_next (one byte more), lanes_four (half a word), lanes_eight and lanes_last (a word of marks), word_cut (without the places below one).
-use Rattle.std.specs.Prelude.{◌≡◌, refl, List, ℕ, ◌+◌, ◌-◌, ◌*◌, ◌/◌, ◌%◌, ◌^◌, ◌≤◌, ◌<◌, max, leb, length, get_or}
-use Rattle.std.proofs.Common.{sym, ◌∙◌, ap, ap₂, subst, mod-eq_of_lt, arith, le-leb, pow_mono, shl_lt}
+-- Main results: lanes_more (one byte more), lanes_read (a number read from some bytes), lanes_full and lanes_last (a word of marks), word_cut (without the places below one).
+use Rattle.std.specs.Prelude.{◌≡◌, refl, List, ℕ, zero, suc, ◌+◌, ◌-◌, ◌*◌, ◌/◌, ◌%◌, ◌^◌, ◌≤◌, ◌<◌, max, leb, length, get_or, take, drop}
+use Rattle.std.proofs.Common.{sym, ◌∙◌, ap, ap₂, subst, mod-eq_of_lt, arith, le-leb, pow-add, pow-suc, pow_mono, shl_lt, get_or-take, get_or-drop}
 use Rattle.std.proofs.Math.Logic.{by_cases}
+use Rattle.std.proofs.Math.Nat.{add_comm}
 use Rattle.std.proofs.Math.Decide.{dec_lt}
 use Rattle.std.proofs.lemmas.Bool.{lt-leb}
-use Rattle.std.specs.Int.Bits.{bit_or, or_zero_l}
+use Rattle.std.specs.Int.{byte_worth, sum_through}
+use Rattle.std.specs.Int.Bits.{bit_or, or_zero_l, or_shifted_r}
 use Rattle.std.proofs.lemmas.Nat.{or_lt}
 use Rattle.std.proofs.Math.ListN.{get_or-eq_default}
 use Rattle.std.proofs.Math.Pow.{split}
@@ -28,9 +30,6 @@ pub record Lanes (marks : List ℕ) (i m w : ℕ) : Type 0 where
 
 pub lanes_none : (marks : List ℕ) (i : ℕ) → Lanes marks i 0 0
 lanes_none marks i = record { small = omega arith; each = λ b h. absurd (omega arith) }
-
-pub lanes_begin : (marks : List ℕ) (i : ℕ) → Lanes marks i (i - i) 0
-lanes_begin marks i = let e : 0 ≡ i - i = omega arith in subst (λ m. Lanes marks i m 0) e (lanes_none marks i)
 
 -- the next byte x is put above them
 pub lanes_more : {marks : List ℕ} {i m w : ℕ} (w' x : ℕ) → Lanes marks i m w → get_or marks (i + m) 0 < 256 → x ≡ get_or marks (i + m) 0 * 2 ^ (8 * m)
@@ -61,14 +60,6 @@ lanes_more {marks} {i} {m} {w} w' x L h ex e =
         let q : 8 * (i + m) + d ≡ 8 * i + b = omega arith in
         ap₂ bit_of f ex ∙ bit_raised (8 * m) d y ∙ sym (mark_at marks (i + m) d g) ∙ ap (mark marks) q
 
--- the same where the next byte is byte a, raised by k bits
-pub lanes_next : {marks : List ℕ} {i a w k : ℕ} (x : ℕ) → i ≤ a → Lanes marks i (a - i) w → k ≡ 8 * (a - i) → get_or marks a 0 < 256
-    → x ≡ get_or marks a 0 * 2 ^ k → Lanes marks i (a + 1 - i) (bit_or w x)
-lanes_next {marks} {i} {a} {w} {k} x h L e s f =
-    let q : i + (a - i) ≡ a = omega arith in
-    let g : a - i + 1 ≡ a + 1 - i = omega arith in
-    subst (λ m. Lanes marks i m (bit_or w x)) g (lanes_more (bit_or w x) x L (rw q s) (rw (q, ← e) f) refl)
-
 all_due : {marks : List ℕ} {c w : ℕ} → w < 2 ^ 64 → ((b : ℕ) → b < 64 → bit_of b w ≡ mark marks (c + b)) → Word marks 0 c w
 all_due {marks} {c} {w} s f =
     record {
@@ -79,27 +70,40 @@ all_due {marks} {c} {w} s f =
 pub lanes_full : {marks : List ℕ} {i w : ℕ} → Lanes marks i 8 w → Word marks 0 (8 * i) w
 lanes_full L = all_due L.small L.each
 
--- four bytes, each raised to its place
-pub lanes_four : (marks : List ℕ) (i x₀ x₁ x₂ x₃ : ℕ) → ((b : ℕ) → get_or marks b 0 < 256) → x₀ ≡ get_or marks i 0 * 2 ^ 0 → x₁ ≡ get_or marks (i + 1) 0 * 2 ^ 8
-    → x₂ ≡ get_or marks (i + 2) 0 * 2 ^ 16 → x₃ ≡ get_or marks (i + 3) 0 * 2 ^ 24 → Lanes marks i 4 (bit_or (bit_or (bit_or x₀ x₁) x₂) x₃)
-lanes_four marks i x₀ x₁ x₂ x₃ s e₀ e₁ e₂ e₃ =
-    let L₁ : Lanes marks i 1 x₀ = lanes_more x₀ x₀ (lanes_none marks i) (s (i + 0)) (let q : i + 0 ≡ i = omega arith in rw q e₀) (sym (or_zero_l x₀)) in
-    let L₂ = lanes_more _ x₁ L₁ (s (i + 1)) e₁ refl in
-    let L₃ = lanes_more _ x₂ L₂ (s (i + 2)) e₂ refl in
-    lanes_more _ x₃ L₃ (s (i + 3)) e₃ refl
+-- byte k of a number is worth 2 to the 8 k
+worth : (k : ℕ) → 256 ^ k ≡ 2 ^ (8 * k)
+worth zero = refl
+worth (suc k) =
+    let e : 8 * suc k ≡ 8 * k + 8 = omega arith in
+    pow-suc 256 k ∙ ap (λ x. x * 256) (worth k) ∙ sym (ap (λ x. 2 ^ x) e ∙ pow-add 2 (8 * k) 8)
 
--- eight bytes
-pub lanes_eight : (marks : List ℕ) (i x₀ x₁ x₂ x₃ x₄ x₅ x₆ x₇ : ℕ) → ((b : ℕ) → get_or marks b 0 < 256) → x₀ ≡ get_or marks i 0 * 2 ^ 0
-    → x₁ ≡ get_or marks (i + 1) 0 * 2 ^ 8 → x₂ ≡ get_or marks (i + 2) 0 * 2 ^ 16 → x₃ ≡ get_or marks (i + 3) 0 * 2 ^ 24
-    → x₄ ≡ get_or marks (i + 4) 0 * 2 ^ 32 → x₅ ≡ get_or marks (i + 5) 0 * 2 ^ 40 → x₆ ≡ get_or marks (i + 6) 0 * 2 ^ 48
-    → x₇ ≡ get_or marks (i + 7) 0 * 2 ^ 56
-    → Word marks 0 (8 * i) (bit_or (bit_or (bit_or (bit_or (bit_or (bit_or (bit_or x₀ x₁) x₂) x₃) x₄) x₅) x₆) x₇)
-lanes_eight marks i x₀ x₁ x₂ x₃ x₄ x₅ x₆ x₇ s e₀ e₁ e₂ e₃ e₄ e₅ e₆ e₇ =
-    let L₄ = lanes_four marks i x₀ x₁ x₂ x₃ s e₀ e₁ e₂ e₃ in
-    let L₅ = lanes_more _ x₄ L₄ (s (i + 4)) e₄ refl in
-    let L₆ = lanes_more _ x₅ L₅ (s (i + 5)) e₅ refl in
-    let L₇ = lanes_more _ x₆ L₆ (s (i + 6)) e₆ refl in
-    lanes_full (lanes_more _ x₇ L₇ (s (i + 7)) e₇ refl)
+-- the bytes up to byte k of a list that has those from byte i on, as `from_le_bytes` puts them together
+lanes_bytes : {marks : List ℕ} (i : ℕ) (bytes : List ℕ) (k : ℕ) → ((j : ℕ) → j ≤ k → get_or bytes j 0 ≡ get_or marks (i + j) 0)
+    → ((b : ℕ) → get_or marks b 0 < 256) → Lanes marks i (k + 1) (sum_through (λ j. byte_worth j (get_or bytes j 0)) k)
+lanes_bytes {marks} i bytes zero e s =
+    let x = get_or bytes 0 0 in
+    let f = e 0 (omega arith) in
+    lanes_more x x (lanes_none marks i) (s (i + 0)) (omega arith) (sym (or_zero_l x))
+lanes_bytes {marks} i bytes (suc k) e s =
+    let w = sum_through (λ j. byte_worth j (get_or bytes j 0)) k in
+    let y = get_or bytes (suc k) 0 in
+    let x = y * 256 ^ suc k in
+    let n : suc k ≡ k + 1 = omega arith in
+    let m : k + 1 + 1 ≡ suc k + 1 = omega arith in
+    let raised : x ≡ y * 2 ^ (8 * (k + 1)) = ap (λ z. y * z) (worth (suc k) ∙ ap (λ z. 2 ^ (8 * z)) n) in
+    let same : y ≡ get_or marks (i + (k + 1)) 0 = e (suc k) (omega arith) ∙ ap (λ z. get_or marks (i + z) 0) n in
+    let L : Lanes marks i (k + 1) (sum_through (λ j. byte_worth j (get_or bytes j 0)) k) = lanes_bytes i bytes k (λ j h. e j (omega arith)) s in
+    let together : w + x ≡ bit_or w x =
+    ap (λ z. w + z) raised ∙ add_comm w (y * 2 ^ (8 * (k + 1))) ∙ sym (or_shifted_r y (8 * (k + 1)) w L.small) ∙ ap (bit_or w) (sym raised) in
+    subst (λ z. Lanes marks i z (w + x)) m (lanes_more (w + x) x L (s (i + (k + 1))) (raised ∙ ap (λ z. z * 2 ^ (8 * (k + 1))) same) together)
+
+-- the same of the bytes that are cut out of the marks
+pub lanes_read : {marks : List ℕ} {w : ℕ} (i k : ℕ) (bytes : List ℕ) → bytes ≡ take (i + (k + 1) - i) (drop i marks) → ((b : ℕ) → get_or marks b 0 < 256)
+    → w ≡ sum_through (λ j. byte_worth j (get_or bytes j 0)) k → Lanes marks i (k + 1) w
+lanes_read {marks} {w} i k bytes cut s e =
+    subst (Lanes marks i (k + 1)) (sym e)
+    (lanes_bytes i bytes k
+    (λ j h. ap (λ l. get_or l j 0) cut ∙ get_or-take (i + (k + 1) - i) (drop i marks) j 0 (omega arith) ∙ get_or-drop i marks j 0) s)
 
 -- there are no marks past the last byte
 pub past_last : (marks : List ℕ) (c : ℕ) → 8 * length marks ≤ c → mark marks c ≡ 0
@@ -148,9 +152,6 @@ word_cut {marks} {c} {w} a k w' W e f =
 pub record Clear (marks : List ℕ) (i r : ℕ) : Type 0 where
   pub order : i ≤ r
   pub none : (d : ℕ) → 8 * i ≤ d → d < 8 * r → mark marks d ≡ 0
-
-pub clear_none : (marks : List ℕ) (i : ℕ) → Clear marks i i
-clear_none marks i = record { order = omega arith; none = λ d h l. absurd (omega arith) }
 
 -- a word of zeros more
 pub clear_more : {marks : List ℕ} {i r w : ℕ} → Clear marks i r → Word marks 0 (8 * r) w → w ≡ 0 → Clear marks i (r + 8)

@@ -10,22 +10,10 @@ pub fn mark_short(marks: &mut [u8], start: usize, m: usize)
     requires { (4 ≤ length marks.old) × (m ≤ 25) × (start + m ≤ 8 * length marks.old) }
     ensures { Marked marks.old start m 1 marks.new }
 {
-    let i = window(start, marks.len());
+    // The first of four bytes that hold the run: the byte of its place, or as far on as four bytes are there.
+    let i = (start / 8).min(marks.len() - 4);
     let word = four_bytes(marks, i) | run_mask(m, start - 8 * i);
     put_four(marks, i, word);
-}
-
-// The first of four bytes that hold a short run from this place on: the byte of the place, or as far on as four bytes are there.
-fn window(start: usize, len: usize) -> usize
-    requires { 4 ≤ len }
-    ensures { result ≡ min (start / 8) (len - 4) }
-{
-    let i = start / 8;
-    let last = len - 4;
-    if last < i {
-        return last;
-    }
-    i
 }
 
 // m ones from bit k on.
@@ -41,8 +29,5 @@ fn put_four(marks: &mut [u8], i: usize, word: u64)
     requires { i + 4 ≤ length marks.old }
     ensures { Stored marks.old i 4 word marks.new }
 {
-    marks[i] = (word % 256) as u8;
-    marks[i + 1] = ((word >> 8) % 256) as u8;
-    marks[i + 2] = ((word >> 16) % 256) as u8;
-    marks[i + 3] = ((word >> 24) % 256) as u8;
+    marks[i..i + 4].copy_from_slice(&word.to_le_bytes()[..4]);
 }

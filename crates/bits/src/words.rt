@@ -5,20 +5,13 @@ ghost use Rattle.bits.specs.Words.{Clear, Lanes, Word};
 
 use plan::Place;
 
-// Byte i of the marks, raised by k bits.
-fn lane(marks: &[u8], i: usize, k: u32) -> u64
-    requires { (i < length marks.now) × (k ≤ 56) }
-    ensures { result ≡ get_or marks.now i 0 * 2 ^ k }
-{
-    (marks[i] as u64) << k
-}
-
 // Four bytes from byte i on: one load.
 pub fn four_bytes(marks: &[u8], i: usize) -> u64
     requires { i + 4 ≤ length marks.now }
     ensures { Lanes marks.now i 4 result }
 {
-    lane(marks, i, 0) | lane(marks, i + 1, 8) | lane(marks, i + 2, 16) | lane(marks, i + 3, 24)
+    let bytes: [u8; 4] = marks[i..i + 4].try_into().unwrap();
+    u64::from(u32::from_le_bytes(bytes))
 }
 
 // Eight bytes from byte i on: one load.
@@ -26,14 +19,8 @@ fn full_word(marks: &[u8], i: usize) -> u64
     requires { i + 8 ≤ length marks.now }
     ensures { Word marks.now 0 (8 * i) result }
 {
-    lane(marks, i, 0)
-        | lane(marks, i + 1, 8)
-        | lane(marks, i + 2, 16)
-        | lane(marks, i + 3, 24)
-        | lane(marks, i + 4, 32)
-        | lane(marks, i + 5, 40)
-        | lane(marks, i + 6, 48)
-        | lane(marks, i + 7, 56)
+    let bytes: [u8; 8] = marks[i..i + 8].try_into().unwrap();
+    u64::from_le_bytes(bytes)
 }
 
 // The bytes from byte i to the end, fewer than eight, and zeros.
@@ -42,12 +29,8 @@ fn last_word(marks: &[u8], i: usize) -> u64
     ensures { Word marks.now 0 (8 * i) result }
 {
     let mut word = 0;
-    let mut k = 0;
-    let mut a = i;
-    while a < marks.len() {
-        word = word | lane(marks, a, k);
-        k += 8;
-        a += 1;
+    for (k, byte) in marks[i..].iter().enumerate() {
+        word |= u64::from(*byte) << (8 * k);
     }
     word
 }
@@ -68,7 +51,7 @@ pub fn word_from(marks: &[u8], i: usize, first: Place) -> u64
     ensures { Word marks.now first.0 (8 * i) result }
 {
     let word = word_at(marks, i);
-    let a = first.0 as usize;
+    let a = usize::from(first.0);
     if a <= 8 * i {
         return word;
     }
@@ -81,11 +64,9 @@ pub fn pass_zeros(marks: &[u8], i: usize) -> usize
     requires { (i ≤ max_places / 4) × (length marks.now ≤ max_places / 8) }
     ensures { Clear marks.now i result × (result ≤ max_places / 4) }
 {
+    // The answer is where the search stops: a `for` over steps of eight would have to work that out anew.
     let mut a = i;
-    while a + 8 <= marks.len() {
-        if full_word(marks, a) != 0 {
-            return a;
-        }
+    while a + 8 <= marks.len() && full_word(marks, a) == 0 {
         a += 8;
     }
     a

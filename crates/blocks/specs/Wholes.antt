@@ -1,6 +1,5 @@
 -- Buffers of exactly the lengths of a good plan, and recovery on them.
-use Rattle.std.specs.Prelude.{◌≡◌, true, List, ℕ, ◌*◌, length}
-use Rattle.refusals.specs.declared.Check.TheVariants.{Pass}
+use Rattle.std.specs.Prelude.{◌≡◌, true, List, ℕ, ◌*◌, length, Ok}
 use Rattle.plan.specs.Plans.{layout_of, plan_check}
 use Rattle.plan.specs.declared.Plan.{Plan}
 use Rattle.code.specs.Marks.{mark_bytes, NoSpare}
@@ -9,7 +8,7 @@ use Rattle.act.specs.Meaning.{Recovering}
 
 -- a good plan with a block and marks of its own lengths
 pub record Whole (p : Plan) (v m : List ℕ) : Type 0 where
-  pub good : plan_check p ≡ Pass
+  pub good : plan_check p ≡ Ok tt
   pub block_long : length v ≡ p.n * p.t
   pub marks_long : length m ≡ mark_bytes (layout_of p)
   pub spare : NoSpare (layout_of p) m

@@ -18,20 +18,9 @@ pub const MAX_T: usize = 2048;
 pub const MAX_PLACES: usize = 32768;
 
 // Refusal 1 is this test's false. The product is formed only where n and t are small.
+#[tactic(auto, unfolding(crate::specs::Bounds::size_fits))]
 pub fn size_fits(n: usize, t: usize) -> bool
     ensures { result ≡ size_fits n t }
 {
-    if n < MIN_N {
-        return false;
-    }
-    if MAX_N < n {
-        return false;
-    }
-    if t < MIN_T {
-        return false;
-    }
-    if MAX_T < t {
-        return false;
-    }
-    n * t <= MAX_PLACES
+    (MIN_N..=MAX_N).contains(&n) && (MIN_T..=MAX_T).contains(&t) && n * t <= MAX_PLACES
 }

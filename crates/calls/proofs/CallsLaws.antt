@@ -1,37 +1,32 @@
 -- Which test gives which answer of check_of, and what a call that passes says of its plan and buffers.
 -- Main results: call_stop, call_next, passes; pass_good, pass_lengths, pass_spare; few_marks, few_none; call_ranked; also_length, also_pass, as_marks; counted_pass, counted_stop.
-use Rattle.std.specs.Prelude.{◌≡◌, ◌⊎◌, Bool, true, false, ◌&&◌, List, [], ℕ, ◌+◌, ◌*◌, ◌/◌, ◌≤◌, ◌<◌, eqb, length, get_or}
+use Rattle.std.specs.Prelude.{◌≡◌, ◌⊎◌, Bool, true, false, ◌&&◌, List, [], ℕ, ◌+◌, ◌*◌, ◌/◌, ◌≤◌, ◌<◌, eqb, length, get_or, Ok, Err, Option, Some}
 use Rattle.std.proofs.Math.Path.{refl, sym, ap}
 use Rattle.std.proofs.Common.{◌∙◌, inl, inr, ⊎_elim, true≢false, arith, eqb-true}
 use Rattle.std.proofs.Math.Seq.{take_all}
 use Rattle.math.specs.Tests.{and_left, and_right}
 use Rattle.bounds.specs.Bounds.{max_places}
-use Rattle.refusals.specs.Refusals.{number_of, unless, ◌then◌, rank_of, earlier}
+use Rattle.refusals.specs.Refusals.{number_of, unless, ◌then◌, rank_of, earlier, Check}
 use Rattle.refusals.proofs.RefusalLaws.{pass_not_stop, stop_same, stop_or_pass, unless_pass, then_pass, earlier_pass, then_earlier}
 use Rattle.refusals.specs.declared.Refusal.{Refusal}
 use Rattle.refusals.specs.declared.Refusal.TheVariants.{Length, Spare}
-use Rattle.refusals.specs.declared.Check.{Check}
-use Rattle.refusals.specs.declared.Check.TheVariants.{Pass, Stop}
 use Rattle.plan.specs.Layout.{message_count, layout}
 use Rattle.plan.specs.Plans.{layout_of, plan_check, count_of}
 use Rattle.plan.proofs.PlanLaws.{plan_refusals, good_bounds}
 use Rattle.plan.specs.declared.Plan.{Plan}
-use Rattle.plan.specs.declared.Count.TheVariants.{Is, Not}
 use Rattle.code.specs.Marks.{mark_bytes, NoSpare}
 use Rattle.code.proofs.Laws.MarksLaws.{erasure_total}
 use Rattle.stretches.specs.Stretches.{ones_of}
 use Rattle.stretches.specs.ByteLaws.{none_marked, none_past}
 use Rattle.calls.specs.Calls.{part_fits, lengths_fit, spare_clear, lent_check, call_check, check_of, also_lent, count_lent, counted_of}
-use Rattle.calls.specs.declared.Part.{Part}
-use Rattle.calls.specs.declared.Part.TheVariants.{Of}
 use Rattle.calls.specs.declared.Lent.{Lent}
 
 -- ---- the lengths
 
-pub part_of : (x : Part) (j k : ℕ) → x ≡ Of j → eqb j k ≡ part_fits x k
-part_of x j k e = ap (λ (y : Part). part_fits y k) (sym e)
+pub part_of : (x : Option ℕ) (j k : ℕ) → x ≡ Some j → eqb j k ≡ part_fits x k
+part_of x j k e = ap (λ (y : Option ℕ). part_fits y k) (sym e)
 
-pub part_same : (x : Part) {j k : ℕ} → j ≡ k → part_fits x j ≡ part_fits x k
+pub part_same : (x : Option ℕ) {j k : ℕ} → j ≡ k → part_fits x j ≡ part_fits x k
 part_same x e = ap (part_fits x) e
 
 -- which test decides
@@ -78,33 +73,33 @@ spare_none m = sym (none_past [] 0 (omega arith))
 -- ---- the answer that each test gives
 
 module _ (places : ℕ) (m : List ℕ) where
-  pub lent_length : (fits : Bool) → fits ≡ false → Stop Length ≡ lent_check places fits m
+  pub lent_length : (fits : Bool) → fits ≡ false → Err Length ≡ lent_check places fits m
   unfolding lent_check
   lent_length fits e = rw e
 
-  pub lent_spare : (fits : Bool) → fits ≡ true → spare_clear places m ≡ false → Stop Spare ≡ lent_check places fits m
+  pub lent_spare : (fits : Bool) → fits ≡ true → spare_clear places m ≡ false → Err Spare ≡ lent_check places fits m
   unfolding lent_check
   lent_spare fits e f = rw (e, f)
 
-  pub lent_pass : (fits : Bool) → fits ≡ true → spare_clear places m ≡ true → Pass ≡ lent_check places fits m
+  pub lent_pass : (fits : Bool) → fits ≡ true → spare_clear places m ≡ true → (Ok tt) ≡ lent_check places fits m
   unfolding lent_check
   lent_pass fits e f = rw (e, f)
 
 module _ (p : Plan) (fits : Bool) (m : List ℕ) where
-  pub call_stop : {x : Refusal} → plan_check p ≡ Stop x → Stop x ≡ call_check p fits m
+  pub call_stop : {x : Refusal} → plan_check p ≡ Err x → Err x ≡ call_check p fits m
   unfolding call_check
   call_stop e = rw e
 
-  pub call_next : {c : Check} → plan_check p ≡ Pass → c ≡ lent_check (p.n * p.t) fits m → c ≡ call_check p fits m
+  pub call_next : {c : Check} → plan_check p ≡ Ok tt → c ≡ lent_check (p.n * p.t) fits m → c ≡ call_check p fits m
   unfolding call_check
   call_next e f = f ∙ rw e
 
   -- a call that passes, and back
-  pub call_passes : plan_check p ≡ Pass → fits ≡ true → spare_clear (p.n * p.t) m ≡ true → call_check p fits m ≡ Pass
+  pub call_passes : plan_check p ≡ Ok tt → fits ≡ true → spare_clear (p.n * p.t) m ≡ true → call_check p fits m ≡ Ok tt
   unfolding call_check lent_check
   call_passes e f g = rw (e, f, g)
 
-  pub call_passed : call_check p fits m ≡ Pass → (plan_check p ≡ Pass) × (fits ≡ true) × (spare_clear (p.n * p.t) m ≡ true)
+  pub call_passed : call_check p fits m ≡ Ok tt → (plan_check p ≡ Ok tt) × (fits ≡ true) × (spare_clear (p.n * p.t) m ≡ true)
   unfolding call_check lent_check
   call_passed e =
       let a = then_pass (plan_check p) _ e in
@@ -112,12 +107,12 @@ module _ (p : Plan) (fits : Bool) (m : List ℕ) where
       (a.0, unless_pass fits Length b.0, unless_pass (spare_clear (p.n * p.t) m) Spare b.1)
 
 module _ (p : Plan) (lent : Lent) (m : List ℕ) where
-  pub passes : plan_check p ≡ Pass → lengths_fit p.n p.t (message_count (layout_of p)) lent ≡ true → spare_clear (p.n * p.t) m ≡ true → Pass ≡ check_of p lent m
+  pub passes : plan_check p ≡ Ok tt → lengths_fit p.n p.t (message_count (layout_of p)) lent ≡ true → spare_clear (p.n * p.t) m ≡ true → (Ok tt) ≡ check_of p lent m
   unfolding check_of
   passes e f g = sym (call_passes p (lengths_fit p.n p.t (message_count (layout_of p)) lent) m e f g)
 
   -- the count of message places is worked out by whoever knows it best
-  pub call_lent : {fits : Bool} {c : Check} (count : ℕ) → plan_check p ≡ Pass → c ≡ lent_check (p.n * p.t) fits m → fits ≡ lengths_fit p.n p.t count lent →
+  pub call_lent : {fits : Bool} {c : Check} (count : ℕ) → plan_check p ≡ Ok tt → c ≡ lent_check (p.n * p.t) fits m → fits ≡ lengths_fit p.n p.t count lent →
       part_fits lent.message count ≡ part_fits lent.message (message_count (layout_of p)) → c ≡ check_of p lent m
   unfolding check_of
   call_lent count e f g h =
@@ -125,13 +120,13 @@ module _ (p : Plan) (lent : Lent) (m : List ℕ) where
 
 -- the lengths that a call which passes is lent
 pub record Lengths (n t count : ℕ) (lent : Lent) : Type 0 where
-  pub block : (k : ℕ) → lent.block ≡ Of k → k ≡ n * t
-  pub marks : (k : ℕ) → lent.marks ≡ Of k → k ≡ (n * t + 7) / 8
-  pub witness : (k : ℕ) → lent.witness ≡ Of k → k ≡ 2 * t
-  pub message : (k : ℕ) → lent.message ≡ Of k → k ≡ count
+  pub block : (k : ℕ) → lent.block ≡ Some k → k ≡ n * t
+  pub marks : (k : ℕ) → lent.marks ≡ Some k → k ≡ (n * t + 7) / 8
+  pub witness : (k : ℕ) → lent.witness ≡ Some k → k ≡ 2 * t
+  pub message : (k : ℕ) → lent.message ≡ Some k → k ≡ count
 
-part_is : (x : Part) (k : ℕ) → part_fits x k ≡ true → (j : ℕ) → x ≡ Of j → j ≡ k
-part_is x k f j e = eqb-true j k (ap (λ (y : Part). part_fits y k) (sym e) ∙ f)
+part_is : (x : Option ℕ) (k : ℕ) → part_fits x k ≡ true → (j : ℕ) → x ≡ Some j → j ≡ k
+part_is x k f j e = eqb-true j k (ap (λ (y : Option ℕ). part_fits y k) (sym e) ∙ f)
 
 lengths_of : (n t count : ℕ) (lent : Lent) → lengths_fit n t count lent ≡ true → Lengths n t count lent
 unfolding lengths_fit
@@ -149,12 +144,12 @@ lengths_of n t count lent e =
       message = part_is lent.message count (and_right (a && b && c) d e);
     }
 
-module _ (p : Plan) (lent : Lent) (m : List ℕ) (e : check_of p lent m ≡ Pass) where
-  all_of : (plan_check p ≡ Pass) × (lengths_fit p.n p.t (message_count (layout_of p)) lent ≡ true) × (spare_clear (p.n * p.t) m ≡ true)
+module _ (p : Plan) (lent : Lent) (m : List ℕ) (e : check_of p lent m ≡ Ok tt) where
+  all_of : (plan_check p ≡ Ok tt) × (lengths_fit p.n p.t (message_count (layout_of p)) lent ≡ true) × (spare_clear (p.n * p.t) m ≡ true)
   unfolding check_of
   all_of = call_passed p (lengths_fit p.n p.t (message_count (layout_of p)) lent) m e
 
-  pub pass_good : plan_check p ≡ Pass
+  pub pass_good : plan_check p ≡ Ok tt
   pass_good = all_of.0
 
   pub pass_lengths : Lengths p.n p.t (message_count (layout_of p)) lent
@@ -166,15 +161,15 @@ module _ (p : Plan) (lent : Lent) (m : List ℕ) (e : check_of p lent m ≡ Pass
 
 -- ---- which refusals a call can give: 1 to 4, and 4 only by the marks
 
-then_stop : (a b : Check) {x : Refusal} → (a then b) ≡ Stop x → (a ≡ Stop x) ⊎ (b ≡ Stop x)
-then_stop Pass b e = inr e
-then_stop (Stop y) b e = inl e
+then_stop : (a b : Check) {x : Refusal} → (a then b) ≡ Err x → (a ≡ Err x) ⊎ (b ≡ Err x)
+then_stop (Ok tt) b e = inr e
+then_stop (Err y) b e = inl e
 
-unless_stop : (b : Bool) (y : Refusal) {x : Refusal} → unless b y ≡ Stop x → (x ≡ y) × (b ≡ false)
+unless_stop : (b : Bool) (y : Refusal) {x : Refusal} → unless b y ≡ Err x → (x ≡ y) × (b ≡ false)
 unless_stop true y e = absurd (pass_not_stop _ e)
 unless_stop false y e = (stop_same (sym e), refl)
 
-call_few : (p : Plan) (fits : Bool) (m : List ℕ) {x : Refusal} → call_check p fits m ≡ Stop x → (number_of x < 4) ⊎ ((x ≡ Spare) × (spare_clear (p.n * p.t) m ≡ false))
+call_few : (p : Plan) (fits : Bool) (m : List ℕ) {x : Refusal} → call_check p fits m ≡ Err x → (number_of x < 4) ⊎ ((x ≡ Spare) × (spare_clear (p.n * p.t) m ≡ false))
 unfolding call_check lent_check
 call_few p fits m e =
     let clear = spare_clear (p.n * p.t) m in
@@ -184,24 +179,24 @@ call_few p fits m e =
     (then_stop (unless fits Length) (unless clear Spare) a))
     (then_stop (plan_check p) (lent_check (p.n * p.t) fits m) e)
 
-call_most : (p : Plan) (fits : Bool) (m : List ℕ) {x : Refusal} → call_check p fits m ≡ Stop x → number_of x < 5
+call_most : (p : Plan) (fits : Bool) (m : List ℕ) {x : Refusal} → call_check p fits m ≡ Err x → number_of x < 5
 call_most p fits m e = ⊎_elim (λ h. omega (arith, h)) (λ h. rw h.0 (omega arith)) (call_few p fits m e)
 
-pub few_marks : (p : Plan) (lent : Lent) (m : List ℕ) {x : Refusal} → check_of p lent m ≡ Stop x → number_of x < 5
+pub few_marks : (p : Plan) (lent : Lent) (m : List ℕ) {x : Refusal} → check_of p lent m ≡ Err x → number_of x < 5
 unfolding check_of
 few_marks p lent m e = call_most p _ m e
 
 -- where no marks are lent no spare bit is 1
-pub few_none : (p : Plan) (lent : Lent) {x : Refusal} → check_of p lent [] ≡ Stop x → number_of x < 4
+pub few_none : (p : Plan) (lent : Lent) {x : Refusal} → check_of p lent [] ≡ Err x → number_of x < 4
 unfolding check_of
 few_none p lent e = ⊎_elim (λ h. h) (λ h. absurd (true≢false (spare_empty (p.n * p.t) ∙ h.1))) (call_few p _ [] e)
 
 -- ---- the order of the table
 
-plan_rank : (p : Plan) {x : Refusal} → plan_check p ≡ Stop x → rank_of x < rank_of Length
+plan_rank : (p : Plan) {x : Refusal} → plan_check p ≡ Err x → rank_of x < rank_of Length
 plan_rank p e = ⊎_elim (λ s. rw s.0 (omega arith)) (λ s. rw s.0 (omega arith)) (plan_refusals p e)
 
-lent_rank : (fits clear : Bool) {x : Refusal} → (unless fits Length then unless clear Spare) ≡ Stop x → rank_of Length ≤ rank_of x
+lent_rank : (fits clear : Bool) {x : Refusal} → (unless fits Length then unless clear Spare) ≡ Err x → rank_of Length ≤ rank_of x
 lent_rank fits clear {x} e =
     ⊎_elim
     (λ s. let q : x ≡ Length = (unless_stop fits Length s).0 in rw q (omega arith))
@@ -233,18 +228,18 @@ lent_also true false false = refl
 lent_also false clear true = refl
 lent_also false clear false = refl
 
-stop_also : (p : Plan) (also : Bool) {x : Refusal} → plan_check p ≡ Stop x → also_lent (Stop x) also ≡ Stop x
+stop_also : (p : Plan) (also : Bool) {x : Refusal} → plan_check p ≡ Err x → also_lent (Err x) also ≡ Err x
 unfolding also_lent
 stop_also p true e = refl
 stop_also p false e = ⊎_elim (λ s. rw s.0 refl) (λ s. rw s.0 refl) (plan_refusals p e)
 
 -- what it comes to
 module _ (c : Check) {fits : Bool} where
-  pub also_fits : fits ≡ true → earlier c Pass ≡ also_lent c fits
+  pub also_fits : fits ≡ true → earlier c (Ok tt) ≡ also_lent c fits
   unfolding also_lent
   also_fits e = rw e
 
-  pub also_not : fits ≡ false → earlier c (Stop Length) ≡ also_lent c fits
+  pub also_not : fits ≡ false → earlier c (Err Length) ≡ also_lent c fits
   unfolding also_lent
   also_not e = rw e
 
@@ -257,21 +252,21 @@ also_length p fits also m =
     (λ s. rw s.1 (stop_also p also s.1))
     (stop_or_pass (plan_check p))
 
-pub also_pass : (c : Check) (fits : Bool) → also_lent c fits ≡ Pass → (c ≡ Pass) × (fits ≡ true)
+pub also_pass : (c : Check) (fits : Bool) → also_lent c fits ≡ Ok tt → (c ≡ Ok tt) × (fits ≡ true)
 unfolding also_lent
 also_pass c fits e = let p = earlier_pass c (unless fits Length) e in (p.0, unless_pass fits Length p.1)
 
-pub also_passes : {c : Check} {fits : Bool} → c ≡ Pass → fits ≡ true → also_lent c fits ≡ Pass
+pub also_passes : {c : Check} {fits : Bool} → c ≡ Ok tt → fits ≡ true → also_lent c fits ≡ Ok tt
 unfolding also_lent
 also_passes e f = rw (e, f)
 
-pub also_few : (p : Plan) (lent : Lent) (m : List ℕ) (fits : Bool) {x : Refusal} → also_lent (check_of p lent m) fits ≡ Stop x → number_of x < 5
+pub also_few : (p : Plan) (lent : Lent) (m : List ℕ) (fits : Bool) {x : Refusal} → also_lent (check_of p lent m) fits ≡ Err x → number_of x < 5
 unfolding check_of
 also_few p lent m fits e = call_most p _ m (sym (also_length p _ fits m) ∙ e)
 
 -- ---- the count of marks
 
-marks_lent : (m : List ℕ) → (count_lent m).marks ≡ Of (length m)
+marks_lent : (m : List ℕ) → (count_lent m).marks ≡ Some (length m)
 unfolding count_lent
 marks_lent m = refl
 
@@ -281,7 +276,7 @@ fits_as k a b {fits = false} h = refl
 
 module _ (p : Plan) (m : List ℕ) where
   -- the marks have the plan's length where the call passes
-  pub count_length : check_of p (count_lent m) m ≡ Pass → length m ≡ (p.n * p.t + 7) / 8
+  pub count_length : check_of p (count_lent m) m ≡ Ok tt → length m ≡ (p.n * p.t + 7) / 8
   unfolding count_lent
   count_length e = (pass_lengths p (count_lent m) m e).marks (length m) refl
 
@@ -292,15 +287,15 @@ module _ (p : Plan) (m : List ℕ) where
       also_length p _ (eqb k (length m)) m ∙ ap (λ b. call_check p b m) (fits_as k (length m) _ (λ h. (lengths_of p.n p.t (message_count (layout_of p)) (count_lent m) h).marks (length m) (marks_lent m)))
       ∙ sym (also_length p _ (eqb k ((p.n * p.t + 7) / 8)) m)
 
-  pub count_most : check_of p (count_lent m) m ≡ Pass → 8 * length m ≤ max_places
+  pub count_most : check_of p (count_lent m) m ≡ Ok tt → 8 * length m ≤ max_places
   count_most e = omega (arith, (good_bounds p (pass_good p (count_lent m) m e)).places_max, count_length e)
 
-  pub counted_pass : check_of p (count_lent m) m ≡ Pass → ((i : ℕ) → get_or m i 0 < 256) → Is (ones_of m (length m)) ≡ counted_of p m
+  pub counted_pass : check_of p (count_lent m) m ≡ Ok tt → ((i : ℕ) → get_or m i 0 < 256) → Ok (ones_of m (length m)) ≡ counted_of p m
   unfolding counted_of count_of ones_of layout_of layout mark_bytes
   counted_pass e h =
       let g = good_bounds p (pass_good p (count_lent m) m e) in
-      rw e (ap Is (sym (erasure_total (layout_of p) refl g.t_min m (count_length e) (pass_spare p (count_lent m) m e (count_length e)) h)))
+      rw e (ap Ok (sym (erasure_total (layout_of p) refl g.t_min m (count_length e) (pass_spare p (count_lent m) m e (count_length e)) h)))
 
-  pub counted_stop : (x : Refusal) → check_of p (count_lent m) m ≡ Stop x → Not x ≡ counted_of p m
+  pub counted_stop : (x : Refusal) → check_of p (count_lent m) m ≡ Err x → Err x ≡ counted_of p m
   unfolding counted_of count_of
   counted_stop x e = rw e

@@ -1,24 +1,25 @@
 -- What refuses a call (01, "What is turned away"): one definition for every entry; and the number of marked places.
 -- Main definitions: check_of, also_lent, counted_of.
-use Rattle.std.specs.Prelude.{Bool, true, ◌&&◌, List, ℕ, ◌+◌, ◌*◌, ◌/◌, eqb, length, take}
-use Rattle.refusals.specs.Refusals.{unless, ◌then◌, earlier}
+use Rattle.std.specs.Prelude.{Bool, true, ◌&&◌, List, ℕ, ◌+◌, ◌*◌, ◌/◌, eqb, length, take, Result, Option, None, Some}
+use Rattle.refusals.specs.Refusals.{unless, ◌then◌, earlier, Check}
+use Rattle.refusals.specs.declared.Refusal.{Refusal}
 use Rattle.refusals.specs.declared.Refusal.TheVariants.{Length, Spare}
-use Rattle.refusals.specs.declared.Check.{Check}
 use Rattle.plan.specs.Layout.{message_count}
 use Rattle.plan.specs.Plans.{layout_of, plan_check, count_of}
 use Rattle.plan.specs.declared.Plan.{Plan}
-use Rattle.plan.specs.declared.Count.{Count}
 use Rattle.code.specs.Marks.{erasures}
 -- passed on: it is part of what refuses a call
 unfoldable pub use Rattle.stretches.specs.Stretches.{none_from}
-use Rattle.calls.specs.declared.Part.{Part}
-use Rattle.calls.specs.declared.Part.TheVariants.{Unlent, Of}
 use Rattle.calls.specs.declared.Lent.{Lent}
 
+-- a buffer that a call does not take
+abbrev pub unlent : Option ℕ
+unlent = None
+
 -- a buffer that is lent has the plan's length; one that a call does not take is no matter
-abbrev pub part_fits : Part → ℕ → Bool
-part_fits Unlent k = true
-part_fits (Of m) k = eqb m k
+abbrev pub part_fits : Option ℕ → ℕ → Bool
+part_fits None k = true
+part_fits (Some m) k = eqb m k
 
 -- the plan's lengths: block n × t, marks a bit per place in whole bytes, witness list 2t, message the number of message places
 unfoldable pub lengths_fit : ℕ → ℕ → ℕ → Lent → Bool
@@ -47,8 +48,8 @@ also_lent c fits = earlier c (unless fits Length)
 
 -- what the count of marks is lent
 unfoldable pub count_lent : List ℕ → Lent
-count_lent m = record { block = Unlent; marks = Of (length m); witness = Unlent; message = Unlent }
+count_lent m = record { block = unlent; marks = Some (length m); witness = unlent; message = unlent }
 
 -- "The sheet gives the number of marked places, counted from the bits": refusals 1 to 4, else the number of marked places
-unfoldable pub counted_of : Plan → List ℕ → Count
+unfoldable pub counted_of : Plan → List ℕ → Result ℕ Refusal
 counted_of p m = count_of (check_of p (count_lent m) m) (length (erasures (layout_of p) m))

@@ -7,81 +7,69 @@ ghost use Rattle.bounds.specs.Bounds.{max_places, max_t};
 ghost use Rattle.refusals.specs.Refusals.{check_number};
 ghost use Rattle.plan.specs.GoodPlan.{GoodPlan};
 ghost use Rattle.plan.specs.Layout.{layout, message_count};
-ghost use Rattle.plan.specs.Plans.{count_number};
 ghost use Rattle.calls.specs.Calls.{part_fits, lengths_fit, spare_clear, lent_check, check_of, also_lent, count_lent, counted_of};
 
-use plan::{Count, Plan, message_places};
-use refusals::{Check, Refusal};
+use plan::{Plan, message_places};
+use refusals::{Refusal, earlier};
 use stretches::{count_ones, none_from};
 
-// A buffer's length, or none where the call takes no such buffer.
-#[derive(Clone, Copy)]
-pub enum Part {
-    Unlent,
-    Of(usize),
-}
-
-// What a call is lent.
+// What a call is lent: the length of each buffer, or none where the call takes no such buffer.
 #[derive(Clone, Copy)]
 pub struct Lent {
-    pub block: Part,
-    pub marks: Part,
-    pub witness: Part,
-    pub message: Part,
+    pub block: Option<usize>,
+    pub marks: Option<usize>,
+    pub witness: Option<usize>,
+    pub message: Option<usize>,
 }
 
 // The first refusal in the order 1 to 4, or none. The lengths are the caller's word; the marks are looked at as they are.
-pub fn check_call(plan: Plan, lent: Lent, marks: &[u8]) -> Check
+pub fn check_call(plan: Plan, lent: Lent, marks: &[u8]) -> Result<(), Refusal>
     ensures { result ≡ check_of plan lent marks.now }
 {
     let n = plan.n;
     let t = plan.t;
     let s = plan.shifts;
     let message = lent.message;
-    match plan.check() {
-        Check::Stop(x) => Check::Stop(x),
-        Check::Pass => {
-            let count = message_length(n, t, &s[..], message);
-            check_lent(lengths_fit(n, t, count, lent), n * t, marks)
-        }
-    }
+    plan.check()?;
+    let count = message_length(n, t, &s[..], message);
+    check_lent(lengths_fit(n, t, count, lent), n * t, marks)
 }
 
 // The same of a call that is lent marks alone.
-pub fn check_marks(plan: Plan, marks: &[u8]) -> Check
+pub fn check_marks(plan: Plan, marks: &[u8]) -> Result<(), Refusal>
     ensures { result ≡ check_of plan (count_lent marks.now) marks.now }
 {
     let lent = Lent {
-        block: Part::Unlent,
-        marks: Part::Of(marks.len()),
-        witness: Part::Unlent,
-        message: Part::Unlent,
+        block: None,
+        marks: Some(marks.len()),
+        witness: None,
+        message: None,
     };
     check_call(plan, lent, marks)
 }
 
 // 3, then 4. `fits`: every lent buffer has its length.
-pub fn check_lent(fits: bool, places: usize, marks: &[u8]) -> Check
+pub fn check_lent(fits: bool, places: usize, marks: &[u8]) -> Result<(), Refusal>
     requires { places ≤ max_places }
     ensures { result ≡ lent_check places fits marks.now }
 {
     if !fits {
-        return Check::Stop(Refusal::Length);
+        return Err(Refusal::Length);
     }
     if !spare_clear(marks, places) {
-        return Check::Stop(Refusal::Spare);
+        return Err(Refusal::Spare);
     }
-    Check::Pass
+    Ok(())
 }
 
 // A further buffer beside those that were checked; `fits`: it has its length.
-pub fn also_lent(check: Check, fits: bool) -> Check
+pub fn also_lent(check: Result<(), Refusal>, fits: bool) -> Result<(), Refusal>
     ensures { result ≡ also_lent check fits }
 {
     if fits {
-        return check.earlier(Check::Pass);
+        return earlier(check, Ok(()));
     }
-    check.earlier(Check::Stop(Refusal::Length))
+    earlier(check, Err(Refusal::Length))
 }
 
 // `count` is the number of message places.
@@ -106,23 +94,23 @@ pub fn lengths_fit(n: usize, t: usize, count: usize, lent: Lent) -> bool
     part_fits(message, count)
 }
 
-fn part_fits(part: Part, k: usize) -> bool
+fn part_fits(part: Option<usize>, k: usize) -> bool
     ensures { result ≡ part_fits part k }
 {
     match part {
-        Part::Unlent => true,
-        Part::Of(m) => m == k,
+        None => true,
+        Some(m) => m == k,
     }
 }
 
 // The number of message places, which is worked out only where a message is lent.
-fn message_length(n: usize, t: usize, shifts: &[u16], part: Part) -> usize
+fn message_length(n: usize, t: usize, shifts: &[u16], part: Option<usize>) -> usize
     requires { GoodPlan n t shifts.now }
     ensures { part_fits part result ≡ part_fits part (message_count (layout n t shifts.now)) }
 {
     match part {
-        Part::Unlent => 0,
-        Part::Of(_) => message_places(n, t, shifts),
+        None => 0,
+        Some(_) => message_places(n, t, shifts),
     }
 }
 
@@ -139,12 +127,10 @@ fn spare_clear(marks: &[u8], places: usize) -> bool
 }
 
 // The number of marked places, or the refusal.
-pub fn erasure_count(plan: Plan, marks: &[u8]) -> Count
+pub fn erasure_count(plan: Plan, marks: &[u8]) -> Result<usize, Refusal>
     ensures value { result ≡ counted_of plan marks.now }
-    ensures result_value { count_number result ≡ check_number (check_of plan (count_lent marks.now) marks.now) }
+    ensures result_value { check_number result ≡ check_number (check_of plan (count_lent marks.now) marks.now) }
 {
-    match check_marks(plan, marks) {
-        Check::Pass => Count::Is(count_ones(marks)),
-        Check::Stop(x) => Count::Not(x),
-    }
+    check_marks(plan, marks)?;
+    Ok(count_ones(marks))
 }

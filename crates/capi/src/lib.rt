@@ -3,13 +3,14 @@
 #![tactic(auto)]
 
 ghost use Rattle.std.specs.Prelude.{◌≡◌};
-ghost use Rattle.refusals.specs.Refusals.{check_number};
-ghost use Rattle.plan.specs.Plans.{plan_check, plan_of, straight_of, powers_of, ruler_of, message_count_of, count_number, count_value};
+ghost use Rattle.refusals.specs.Refusals.{check_number, count_value};
+ghost use Rattle.plan.specs.Plans.{plan_check, plan_of, straight_of, powers_of, ruler_of, message_count_of};
 ghost use Rattle.calls.specs.Calls.{counted_of};
 ghost use Rattle.numbers.specs.Entries.{numbered, FiguresOut, RecoverOut, EncodeOut, MessageOut, FetchOut};
 
 use numbers::{Made, number_erasure_count, number_figures, number_made, number_message_count};
 use plan::Plan;
+use refusals::number;
 
 #[unsafe(no_mangle)]
 pub extern "C" fn fumizhaki_plan_of(n: usize, t: usize, shifts: &[u16]) -> Made
@@ -43,12 +44,12 @@ pub extern "C" fn fumizhaki_ruler(n: usize) -> Made
 pub extern "C" fn fumizhaki_verdict(plan: Plan) -> u8
     ensures { result ≡ check_number (plan_check plan) }
 {
-    plan.check().number()
+    number(&plan.check())
 }
 
 #[unsafe(no_mangle)]
 pub extern "C" fn fumizhaki_message_count(plan: Plan, count: &mut usize) -> u8
-    ensures value { result ≡ count_number (message_count_of plan) }
+    ensures value { result ≡ check_number (message_count_of plan) }
     ensures count_after { count.new ≡ count_value (message_count_of plan) }
 {
     number_message_count(plan, count)
@@ -69,7 +70,7 @@ pub extern "C" fn fumizhaki_figures(
 
 #[unsafe(no_mangle)]
 pub extern "C" fn fumizhaki_erasure_count(plan: Plan, marks: &[u8], count: &mut usize) -> u8
-    ensures value { result ≡ count_number (counted_of plan marks.now) }
+    ensures value { result ≡ check_number (counted_of plan marks.now) }
     ensures count_after { count.new ≡ count_value (counted_of plan marks.now) }
 {
     number_erasure_count(plan, marks, count)
@@ -94,7 +95,7 @@ pub extern "C" fn fumizhaki_recover(
 pub extern "C" fn fumizhaki_encode(plan: Plan, message: &[u8], block: &mut [u8]) -> u8
     ensures { EncodeOut plan message.now block.old result block.new }
 {
-    sealing::encode(plan, message, block).number()
+    number(&sealing::encode(plan, message, block))
 }
 
 #[unsafe(no_mangle)]
@@ -113,7 +114,7 @@ pub extern "C" fn fumizhaki_fetch(
 ) -> u8
     ensures { FetchOut plan marks.now list.old result count.new list.new }
 {
-    let fetching = fetch::fetch(plan, marks, list);
-    *count = fetching.count();
-    fetching.number()
+    let fetched = fetch::fetch(plan, marks, list);
+    *count = fetched.unwrap_or(0);
+    number(&fetched)
 }

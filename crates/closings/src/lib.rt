@@ -13,7 +13,6 @@ use bits::marks::{bit, set_mark};
 use components::parents::own;
 use components::walk::{back, gap, join};
 use plan::Place;
-use slices::clear_bytes;
 use tables::walk::Spot;
 
 // Every place from the spot on is passed; so many of them close a cycle, and their bits are set.
@@ -98,6 +97,6 @@ pub fn closings(
     ensures { FetchBits (layout n t shifts.now) (erasures (layout n t shifts.now) marks.now) (length marks.now) list.new result }
 {
     own(&mut parent[..]);
-    clear_bytes(&mut list[..]);
+    list.fill(0);
     pass(n, t, shifts, marks, parent, list)
 }

@@ -1,5 +1,5 @@
--- The cases of reading a command as laws: one for each first byte.
--- Main results: is_new_plan .. is_fetch, no_size, nothing, unknown, short, whole, size_most, command_prefix.
+-- The cases of reading a command as laws.
+-- Main results: is_set_symbol, is_mark_one, is_mark_run, is_show, nothing, unknown, short, whole, size_most, command_prefix.
 use Rattle.std.specs.Prelude.{◌≡◌, refl, Bool, true, false, cond, List, [], ◌∷◌, ◌++◌, ℕ, ◌≤◌, ◌<◌, eqb, get_or}
 use Rattle.std.proofs.Math.Path.{sym}
 use Rattle.std.proofs.Common.{◌∙◌, subst, arith}
@@ -7,53 +7,11 @@ use Rattle.std.proofs.Math.ListN.{length, get_or-append}
 use borrow.Author.Tests.{lt-ltb, le-ltb, ne_eqb, eqb-true}
 use Rattle.commands.specs.Commands.{size_of, longest, one, two, command_of, parsed}
 use Rattle.commands.specs.declared.Command.{Command}
-use Rattle.commands.specs.declared.Command.TheVariants.{NewPlan, SetShift, SetSymbol, MarkOne, MarkRun, Recover, Seal, Show, Figures, Straight, Powers, Ruler, Fetch}
+use Rattle.commands.specs.declared.Command.TheVariants.{SetSymbol, MarkOne, MarkRun, Show}
 use Rattle.commands.specs.declared.Parsed.TheVariants.{Whole, Unknown, Short, Nothing}
 
--- a byte that is none of the first twelve commands' first bytes
-pub record Other (b : ℕ) : Type 0 where
-  pub not_01 : b ≡ 0x01 → ⊥
-  pub not_02 : b ≡ 0x02 → ⊥
-  pub not_03 : b ≡ 0x03 → ⊥
-  pub not_04 : b ≡ 0x04 → ⊥
-  pub not_05 : b ≡ 0x05 → ⊥
-  pub not_06 : b ≡ 0x06 → ⊥
-  pub not_07 : b ≡ 0x07 → ⊥
-  pub not_08 : b ≡ 0x08 → ⊥
-  pub not_09 : b ≡ 0x09 → ⊥
-  pub not_0_a : b ≡ 0x0A → ⊥
-  pub not_0_b : b ≡ 0x0B → ⊥
-  pub not_0_c : b ≡ 0x0C → ⊥
-
-pub no_size : (b : ℕ) → Other b → (b ≡ 0x0D → ⊥) → 0 ≡ size_of b
-unfolding size_of
-no_size b o n =
-    simp (
-      ne_eqb b 0x01 o.not_01,
-      ne_eqb b 0x02 o.not_02,
-      ne_eqb b 0x03 o.not_03,
-      ne_eqb b 0x04 o.not_04,
-      ne_eqb b 0x05 o.not_05,
-      ne_eqb b 0x06 o.not_06,
-      ne_eqb b 0x07 o.not_07,
-      ne_eqb b 0x08 o.not_08,
-      ne_eqb b 0x09 o.not_09,
-      ne_eqb b 0x0A o.not_0_a,
-      ne_eqb b 0x0B o.not_0_b,
-      ne_eqb b 0x0C o.not_0_c,
-      ne_eqb b 0x0D n,
-    )
-
--- the command by its first byte b, and its operands
+-- four of the commands by their first byte b, with their operands
 module _ (s : List ℕ) {b : ℕ} (first : b ≡ one s 0) where
-  pub is_new_plan : {n t : ℕ} → b ≡ 0x01 → n ≡ one s 1 → t ≡ two s 2 → NewPlan n t ≡ command_of s
-  unfolding command_of
-  is_new_plan h p0 p1 = simp (p0, p1, sym first ∙ h)
-
-  pub is_set_shift : {j p : ℕ} → b ≡ 0x02 → j ≡ one s 1 → p ≡ two s 2 → SetShift j p ≡ command_of s
-  unfolding command_of
-  is_set_shift h p0 p1 = simp (p0, p1, sym first ∙ h)
-
   pub is_set_symbol : {c v : ℕ} → b ≡ 0x03 → c ≡ two s 1 → v ≡ one s 3 → SetSymbol c v ≡ command_of s
   unfolding command_of
   is_set_symbol h p0 p1 = simp (p0, p1, sym first ∙ h)
@@ -66,38 +24,9 @@ module _ (s : List ℕ) {b : ℕ} (first : b ≡ one s 0) where
   unfolding command_of
   is_mark_run h p0 p1 = simp (p0, p1, sym first ∙ h)
 
-  pub is_recover : b ≡ 0x06 → Recover ≡ command_of s
-  unfolding command_of
-  is_recover h = simp (sym first ∙ h)
-
-  pub is_seal : b ≡ 0x07 → Seal ≡ command_of s
-  unfolding command_of
-  is_seal h = simp (sym first ∙ h)
-
   pub is_show : {c : ℕ} → b ≡ 0x08 → c ≡ two s 1 → Show c ≡ command_of s
   unfolding command_of
   is_show h p0 = simp (p0, sym first ∙ h)
-
-  pub is_figures : b ≡ 0x09 → Figures ≡ command_of s
-  unfolding command_of
-  is_figures h = simp (sym first ∙ h)
-
-  pub is_straight : {n t : ℕ} → b ≡ 0x0A → n ≡ one s 1 → t ≡ two s 2 → Straight n t ≡ command_of s
-  unfolding command_of
-  is_straight h p0 p1 = simp (p0, p1, sym first ∙ h)
-
-  pub is_powers : {n t q : ℕ} → b ≡ 0x0B → n ≡ one s 1 → t ≡ two s 2 → q ≡ two s 4 → Powers n t q ≡ command_of s
-  unfolding command_of
-  is_powers h p0 p1 p2 = simp (p0, p1, p2, sym first ∙ h)
-
-  pub is_ruler_lem : {n : ℕ} → b ≡ 0x0C → n ≡ one s 1 → Ruler n ≡ command_of s
-  unfolding command_of
-  is_ruler_lem h p0 = simp (p0, sym first ∙ h)
-
-  pub is_fetch : Other b → Fetch ≡ command_of s
-  unfolding command_of
-  is_fetch o =
-      simp (← first, ne_eqb b 0x01 o.not_01, ne_eqb b 0x02 o.not_02, ne_eqb b 0x03 o.not_03, ne_eqb b 0x04 o.not_04, ne_eqb b 0x05 o.not_05, ne_eqb b 0x06 o.not_06, ne_eqb b 0x07 o.not_07, ne_eqb b 0x08 o.not_08, ne_eqb b 0x09 o.not_09, ne_eqb b 0x0A o.not_0_a, ne_eqb b 0x0B o.not_0_b, ne_eqb b 0x0C o.not_0_c)
 
 -- what stands at the front of the bytes, by the size z that the first byte says
 pub nothing : (s : List ℕ) → length s ≡ 0 → Nothing ≡ parsed s

@@ -1,8 +1,7 @@
 -- Reading a command (01, "The job and its sheet"): "Commands are one hex byte, operands unsigned, low byte first, width in bytes in brackets." Document 02 adds 0D, which has no operand.
-use Rattle.std.specs.Prelude.{cond, List, [], ◌∷◌, ℕ, ◌+◌, ◌*◌, eqb, ltb, length, get_or}
+use Rattle.std.specs.Prelude.{cond, List, [], ◌∷◌, ℕ, ◌+◌, ◌*◌, eqb, ltb, length, get_or, Ok, Err}
 use Rattle.refusals.specs.declared.Refusal.TheVariants as refusal
-use Rattle.refusals.specs.declared.Check.{Check}
-use Rattle.refusals.specs.declared.Check.TheVariants.{Pass, Stop}
+use Rattle.refusals.specs.Refusals.{Check}
 use Rattle.commands.specs.declared.Command.{Command}
 use Rattle.commands.specs.declared.Command.TheVariants.{NewPlan, SetShift, SetSymbol, MarkOne, MarkRun, Recover, Seal, Show, Figures, Straight, Powers, Ruler, Fetch}
 use Rattle.commands.specs.declared.Parsed.{Parsed}
@@ -51,7 +50,7 @@ parsed (b ∷ rest) =
 
 -- 7, command: "unknown first byte in a job"; 8, short: "the job ends inside a command"
 abbrev pub parsed_check : Parsed → Check
-parsed_check (Whole c) = Pass
-parsed_check Unknown = Stop refusal.Command
-parsed_check Short = Stop refusal.Short
-parsed_check Nothing = Pass
+parsed_check (Whole c) = Ok tt
+parsed_check Unknown = Err refusal.Command
+parsed_check Short = Err refusal.Short
+parsed_check Nothing = Ok tt

@@ -2,7 +2,7 @@
 // Entries: parse, size_of.
 #![tactic(auto)]
 
-ghost use Rattle.std.specs.Prelude.{◌≡◌, ◌<◌};
+ghost use Rattle.std.specs.Prelude.{◌≡◌, ◌<◌, MatchOption};
 ghost use Rattle.commands.specs.Commands.{size_of, one, two, command_of, parsed};
 
 // 01, "The job and its sheet": the commands 01 to 0C (hex) with their operands; document 02 adds 0D.
@@ -32,44 +32,44 @@ pub enum Parsed {
     Nothing,
 }
 
+#[tactic(auto, unfolding(crate::specs::Commands::parsed))]
 pub fn parse(bytes: &[u8]) -> Parsed
     ensures { result ≡ parsed bytes.now }
 {
-    if bytes.len() == 0 {
-        return Parsed::Nothing;
+    match bytes {
+        [] => Parsed::Nothing,
+        [first, ..] => match size_of(*first) {
+            None => Parsed::Unknown,
+            Some(size) if bytes.len() < size => Parsed::Short,
+            Some(_) => Parsed::Whole(command_of(bytes)),
+        },
     }
-    let size = size_of(bytes[0]);
-    if size == 0 {
-        return Parsed::Unknown;
-    }
-    if bytes.len() < size {
-        return Parsed::Short;
-    }
-    Parsed::Whole(command_of(bytes))
 }
 
-// The bytes that a command takes, by its first byte; 0 for no command.
-pub fn size_of(b: u8) -> usize
-    ensures { result ≡ size_of b }
+// The bytes that a command takes, by its first byte.
+#[tactic(auto, unfolding(crate::specs::Commands::size_of))]
+pub fn size_of(b: u8) -> Option<usize>
+    ensures { MatchOption result (size_of b ≡ 0) (λ k. (k ≡ size_of b) × (0 < k)) }
 {
     match b {
-        0x01 => 4,
-        0x02 => 4,
-        0x03 => 4,
-        0x04 => 3,
-        0x05 => 5,
-        0x06 => 1,
-        0x07 => 1,
-        0x08 => 3,
-        0x09 => 1,
-        0x0A => 4,
-        0x0B => 6,
-        0x0C => 2,
-        0x0D => 1,
-        _ => 0,
+        0x01 => Some(4),
+        0x02 => Some(4),
+        0x03 => Some(4),
+        0x04 => Some(3),
+        0x05 => Some(5),
+        0x06 => Some(1),
+        0x07 => Some(1),
+        0x08 => Some(3),
+        0x09 => Some(1),
+        0x0A => Some(4),
+        0x0B => Some(6),
+        0x0C => Some(2),
+        0x0D => Some(1),
+        _ => None,
     }
 }
 
+#[tactic(auto, unfolding(crate::specs::Commands::command_of))]
 fn command_of(s: &[u8]) -> Command
     ensures { result ≡ command_of s.now }
 {
@@ -114,7 +114,7 @@ fn command_of(s: &[u8]) -> Command
 fn byte(s: &[u8], i: usize) -> u8
     ensures { result ≡ one s.now i }
 {
-    if i < s.len() { s[i] } else { 0 }
+    s.get(i).copied().unwrap_or(0)
 }
 
 // Two bytes, low byte first.
@@ -122,5 +122,5 @@ fn pair(s: &[u8], i: usize) -> u16
     requires { i < 8 }
     ensures { result ≡ two s.now i }
 {
-    byte(s, i) as u16 + 256 * byte(s, i + 1) as u16
+    u16::from_le_bytes([byte(s, i), byte(s, i + 1)])
 }

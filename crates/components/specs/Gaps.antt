@@ -1,4 +1,4 @@
--- Places next below a place that are not marked. Main results: gap_none, gap_word.
+-- Places next below a place that are not marked. Main result: gap_word.
 use Rattle.std.specs.Prelude.{◌≡◌, List, ℕ, ◌+◌, ◌-◌, ◌*◌, ◌/◌, ◌%◌, ◌^◌, ◌≤◌, ◌<◌}
 use Rattle.std.proofs.Common.{sym, ◌∙◌, ap, mod-lt, arith, le-leb, pow_pos}
 use Rattle.std.specs.Int.Count.{count_leading_zeros}
@@ -15,9 +15,6 @@ pub record Gap (marks : List ℕ) (c m : ℕ) : Type 0 where
   pub far : m ≤ c
   pub small : m ≤ 64
   pub none : (d : ℕ) → c ≤ d + m → d < c → mark marks d ≡ 0
-
-pub gap_none : (marks : List ℕ) (c : ℕ) → Gap marks c 0
-gap_none marks c = record { far = omega arith; small = omega arith; none = λ d h l. absurd (omega arith) }
 
 -- the bits that a width w keeps
 bit_mod : (w b x : ℕ) → b < w → bit_of b (x % 2 ^ w) ≡ bit_of b x

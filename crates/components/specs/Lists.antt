@@ -1,12 +1,12 @@
 -- Lists as the code of crossed writes them: rows picked out, a list filled up with 0, sums by parent.
 -- Main results: adds_more.
-use Rattle.std.specs.Prelude.{◌≡◌, refl, ◌≢◌, List, [], ◌∷◌, ◌++◌, ℕ, ◌+◌, ◌-◌, ◌≤◌, ◌<◌, eqb, length, get_or, set, replicate}
-use Rattle.std.proofs.Common.{sym, ◌∙◌, ap, subst, append-nil, add-one, arith, length-set, length-append, get_or-set_same, get_or-set_other, eq-eqb, ne_eqb}
+use Rattle.std.specs.Prelude.{◌≡◌, refl, ◌≢◌, List, [], ◌∷◌, ◌++◌, ℕ, ◌+◌, ◌≤◌, ◌<◌, eqb, length, get_or, set, replicate}
+use Rattle.std.proofs.Common.{sym, ◌∙◌, ap, append-nil, add-one, arith, length-set, length-append, get_or-set_same, get_or-set_other, eq-eqb, ne_eqb}
 use Rattle.std.proofs.Math.Logic.{by_cases}
 use Rattle.std.proofs.Math.Decide.{ℕ_discrete}
 use Rattle.std.proofs.lemmas.List.{length-replicate, get_or-replicate}
 use Rattle.math.specs.Members.{keep, from, up_to}
-use Rattle.math.specs.Padded.{padded, padded_none, padded_more, length_padded}
+use Rattle.math.specs.Padded.{padded, padded_none, padded_more}
 use Rattle.math.specs.MembersLaws.{up_to_suc, keep_append, length_keep_le, length_up_to}
 use Rattle.math.specs.Xor.{◌⊕◌, ⊕_zero}
 use Rattle.math.specs.Sums.{xor_over, only}
@@ -54,9 +54,6 @@ adds_more {n} {parent} {sum} {total} {i} m h =
           ∙ ap (λ x. total_of parent sum i q ⊕ x) (sym (only_false (get_or sum i 0) (ne_eqb p q (λ e. n (sym e)))))
           ∙ sym (total_of_more parent sum i q));
     }
-
-pub adds_all : {n : ℕ} {parent sum total : List ℕ} {i : ℕ} → Adds n parent sum total i → n ≤ i → i ≤ n → Adds n parent sum total n
-adds_all {n} {parent} {sum} {total} m h k = subst (Adds n parent sum total) (omega arith) m
 
 -- ---- the first row with a sum that is not 0
 
@@ -112,11 +109,3 @@ pub gathers_out : {n : ℕ} {parent : List ℕ} {q : ℕ} {witness : List ℕ} {
 gathers_out {n} {parent} {q} {witness} {z} {i} m e =
     let g : gathered parent q i ≡ gathered parent q (i + 1) = sym (gathered_out parent q i e) in
     record { count = m.count ∙ ap length g; few = omega (arith, m.few); rows = m.rows ∙ ap (padded n) g }
-
-pub gathers_long : {n : ℕ} {parent : List ℕ} {q : ℕ} {witness : List ℕ} {z i : ℕ} → Gathers n parent q witness z i → i ≤ n → length witness ≡ n
-gathers_long {n} {parent} {q} {witness} {z} {i} m h =
-    ap length m.rows ∙ length_padded n (gathered parent q i) (omega (arith, m.few, m.count))
-
-pub gathers_all : {n : ℕ} {parent : List ℕ} {q : ℕ} {witness : List ℕ} {z i : ℕ} → Gathers n parent q witness z i → n ≤ i → i ≤ n
-    → Gathers n parent q witness z n
-gathers_all {n} {parent} {q} {witness} {z} m h k = subst (Gathers n parent q witness z) (omega arith) m

@@ -260,9 +260,6 @@ pub record Settled (p q : List ℕ) (i : ℕ) : Type 0 where
   pub same : Same p q
   pub flat : (r : ℕ) → r < i → get_or q (get_or q r 0) 0 ≡ get_or q r 0
 
-pub settled_none : {p : List ℕ} → Falls p → Settled p p 0
-settled_none h = record { same = same_refl h; flat = λ r k. absurd (omega arith) }
-
 pub settled_more : {p q : List ℕ} {i : ℕ} → Settled p q i → i < length p → Settled p (set q i (get_or q (get_or q i 0) 0)) (i + 1)
 settled_more {p} {q} {i} m k =
     let h : i < length q = omega (arith, m.same.long) in
@@ -285,9 +282,6 @@ settled_more {p} {q} {i} m k =
           ap (λ s. get_or q' s 0) (at r j) ∙ at (get_or q r 0) (omega (arith, fall r (omega arith))) ∙ m.flat r j ∙ sym (at r j));
     }
 
-pub settled_all : {p q : List ℕ} {i : ℕ} → Settled p q i → length q ≤ i → Settled p q (length p)
-settled_all m h = record { same = m.same; flat = λ r k. m.flat r (omega (arith, m.same.long)) }
-
 -- ---- the first table
 
 -- the rows below i are their own parents
@@ -295,14 +289,8 @@ pub record Own (p q : List ℕ) (i : ℕ) : Type 0 where
   pub long : length q ≡ length p
   pub each : (r : ℕ) → r < i → get_or q r 0 ≡ r
 
-pub own_none : (p : List ℕ) → Own p p 0
-own_none p = record { long = refl; each = λ r h. absurd (omega arith) }
-
 pub own_more : {p q : List ℕ} {i : ℕ} → Own p q i → i < length q → Own p (set q i i) (i + 1)
 own_more {p} {q} {i} m h = record {
   long = length-set q i i ∙ m.long;
   each = λ r k. at_set (λ x. x ≡ r) q i i r h sym (λ n. m.each r (omega arith));
 }
-
-pub own_all : {p q : List ℕ} {i : ℕ} → Own p q i → length q ≤ i → Own p q (length p)
-own_all m h = record { long = m.long; each = λ r k. m.each r (omega (arith, m.long)) }

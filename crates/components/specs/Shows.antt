@@ -1,6 +1,6 @@
 -- What crossed answers: every component sums to 0, or the rows of the first component that does not.
 -- Main results: shows_balanced and shows_crossed (from the tables), crossed_inconsistent and balanced_imbalance (what it says of a block with erasures).
-use Rattle.std.specs.Prelude.{◌≡◌, refl, ◌≢◌, List, length, get_or}
+use Rattle.std.specs.Prelude.{◌≡◌, refl, ◌≢◌, List, length, get_or, Option, Some, None}
 use Rattle.std.proofs.Common.{sym, ◌∙◌, subst, arith}
 use Rattle.std.proofs.Math.Path.{ap, ap₂}
 use Rattle.std.proofs.Math.Logic.{by_cases}
@@ -22,8 +22,6 @@ use Rattle.code.proofs.Laws.Labels.{label_idem, label_lt, component_of_first, co
 use Rattle.code.proofs.Laws.Balance.{class_sum, class_sum_component, class_sum_rows}
 use Rattle.math.specs.Padded.{padded}
 use Rattle.components.specs.Lists.{total_of, Adds, First, gathered, Gathers}
-use Rattle.components.specs.declared.sums.Rows.{Rows}
-use Rattle.components.specs.declared.sums.Rows.TheVariants.{Balanced, Crossed}
 
 -- the component of row r is the first whose row sums do not add up to 0; its z rows stand in the witness
 pub record Unbalanced (L : Layout) (E : List ℕ) (x : ℕ → ℕ) (z : ℕ) (witness : List ℕ) : Type 0 where
@@ -35,13 +33,13 @@ pub record Unbalanced (L : Layout) (E : List ℕ) (x : ℕ → ℕ) (z : ℕ) (w
   pub count : z ≡ length (component_of L E r)
   pub written : witness ≡ padded (2 * L.t) (component_of L E r)
 
--- what an answer says; a balanced one leaves the witness as it was lent
-abbrev pub Says : Layout → List ℕ → (ℕ → ℕ) → List ℕ → List ℕ → Rows → Type 0
-Says L E x lent witness Balanced = ((q : ℕ) → class_sum L E q x ≡ 0) × (witness ≡ lent)
-Says L E x lent witness (Crossed z) = Unbalanced L E x z witness
+-- what an answer says: the number of rows written, or that all is balanced, which leaves the witness as it was lent
+abbrev pub Says : Layout → List ℕ → (ℕ → ℕ) → List ℕ → List ℕ → Option ℕ → Type 0
+Says L E x lent witness None = ((q : ℕ) → class_sum L E q x ≡ 0) × (witness ≡ lent)
+Says L E x lent witness (Some z) = Unbalanced L E x z witness
 
 -- the answer is right for whatever labels and row sums the tables hold
-pub record Shows (t : ℕ) (parent sum lent witness : List ℕ) (answer : Rows) : Type 0 where
+pub record Shows (t : ℕ) (parent sum lent witness : List ℕ) (answer : Option ℕ) : Type 0 where
   pub says : (L : Layout) (E : List ℕ) (x : ℕ → ℕ) → L.t ≡ t
       → ((r : ℕ) → r < 2 * t → get_or parent r 0 ≡ label L E r)
       → ((r : ℕ) → r < 2 * t → get_or sum r 0 ≡ syndrome L x r) → Says L E x lent witness answer
@@ -107,7 +105,7 @@ module _ (L : Layout) (E : List ℕ) (x : ℕ → ℕ) (parent sum : List ℕ)
         }
 
 module _ {t : ℕ} {parent sum lent total : List ℕ} (adds : Adds (2 * t) parent sum total (2 * t)) where
-  pub shows_balanced : {r : ℕ} → First (2 * t) total r → 2 * t ≤ r → Shows t parent sum lent lent Balanced
+  pub shows_balanced : {r : ℕ} → First (2 * t) total r → 2 * t ≤ r → Shows t parent sum lent lent None
   shows_balanced {r} f h = record {
     says = λ L E x e labels sums. (
       subst (λ u. ((i : ℕ) → i < 2 * u → get_or parent i 0 ≡ label L E i) → ((i : ℕ) → i < 2 * u → get_or sum i 0 ≡ syndrome L x i)
@@ -119,7 +117,7 @@ module _ {t : ℕ} {parent sum lent total : List ℕ} (adds : Adds (2 * t) paren
   }
 
   pub shows_crossed : {r z : ℕ} {witness : List ℕ} → First (2 * t) total r → r < 2 * t → Gathers (2 * t) parent r witness z (2 * t)
-      → Shows t parent sum lent witness (Crossed z)
+      → Shows t parent sum lent witness (Some z)
   shows_crossed {r} {z} {witness} f h g = record {
     says = λ L E x e labels sums.
         subst (λ u. ((i : ℕ) → i < 2 * u → get_or parent i 0 ≡ label L E i) → ((i : ℕ) → i < 2 * u → get_or sum i 0 ≡ syndrome L x i)

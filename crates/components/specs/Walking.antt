@@ -1,6 +1,6 @@
 -- The walk over the marks as the code makes it: the place with its section and offset, and the bits of the marks.
 -- Main results: joinable, stepped_gap, stepped_join (the steps), descending_more, descends_at, descends_none (several), passed_at, passed_none (all).
-use Rattle.std.specs.Prelude.{◌≡◌, refl, ◌≢◌, Bool, true, false, ◌&&◌, List, ℕ, ◌+◌, ◌-◌, ◌*◌, ◌/◌, ◌≤◌, ◌<◌, length, get_or}
+use Rattle.std.specs.Prelude.{◌≡◌, refl, ◌≢◌, Bool, true, false, ◌&&◌, List, ℕ, ◌+◌, ◌-◌, ◌*◌, ◌/◌, ◌≤◌, ◌<◌, length, get_or, Option, Some, None}
 use Rattle.std.proofs.Common.{sym, ◌∙◌, ap, true≢false, mod-lt, div-lt_iff_lt-mul, arith}
 use Rattle.std.proofs.Math.Path.{subst}
 use Rattle.std.proofs.Math.Logic.{by_cases}
@@ -22,8 +22,6 @@ use Rattle.components.specs.Parents.{Falls, Unites, Own}
 use Rattle.components.specs.Gaps.{Gap}
 use Rattle.components.specs.Walks.{Joins, Told, Passed, since, since_all, since_none, since_skip, joins_none, joins_since, told_join}
 use Rattle.plan.specs.GoodPlan.{GoodPlan}
-use Rattle.components.specs.declared.walk.Closing.{Closing}
-use Rattle.components.specs.declared.walk.Closing.TheVariants.{At, None}
 
 -- a place whose rows can be joined in the table p
 pub record Joinable (n t : ℕ) (p : List ℕ) (c j k : ℕ) : Type 0 where
@@ -58,12 +56,12 @@ pub record Descending (n t : ℕ) (shifts marks p : List ℕ) (b c j k : ℕ) (s
       → Forest (layout n t shifts) (since c (erasures (layout n t shifts) marks))
 
 -- the place that closes a cycle, where they stop, or the end
-abbrev pub Next : ℕ → ℕ → List ℕ → List ℕ → List ℕ → ℕ → Bool → Closing → Type 0
-Next n t shifts marks p b stop (At s) = (stop ≡ true) × Stepped n t shifts marks p b s.place.0 s.section s.offset true
+abbrev pub Next : ℕ → ℕ → List ℕ → List ℕ → List ℕ → ℕ → Bool → Option Spot → Type 0
+Next n t shifts marks p b stop (Some s) = (stop ≡ true) × Stepped n t shifts marks p b s.place.0 s.section s.offset true
 Next n t shifts marks p b stop None = Descending n t shifts marks p b 0 0 0 stop
 
 -- what `descend` promises
-pub record Descends (n t : ℕ) (shifts marks p : List ℕ) (b : ℕ) (stop : Bool) (r : Closing) : Type 0 where
+pub record Descends (n t : ℕ) (shifts marks p : List ℕ) (b : ℕ) (stop : Bool) (r : Option Spot) : Type 0 where
   pub next : Next n t shifts marks p b stop r
 
 -- no place below c is marked
@@ -190,7 +188,7 @@ module _ {n t : ℕ} {shifts marks : List ℕ} where
     }
 
     -- it stops
-    pub descends_at : closes && stop ≡ true → Descends n t shifts marks q b stop (At s)
+    pub descends_at : closes && stop ≡ true → Descends n t shifts marks q b stop (Some s)
     descends_at e =
         let i = and_right closes stop e in
         record {
@@ -235,7 +233,7 @@ walking_start {n} {t} {shifts} s marks {p} {q} b l h =
     }
 
 -- the first place that closes a cycle
-pub first_at : {n t : ℕ} {shifts marks q : List ℕ} {c : ℕ} {r : Closing} {s : Spot} → r ≡ At s → Descends n t shifts marks q c true r
+pub first_at : {n t : ℕ} {shifts marks q : List ℕ} {c : ℕ} {r : Option Spot} {s : Spot} → r ≡ Some s → Descends n t shifts marks q c true r
     → Stepped n t shifts marks q c s.place.0 s.section s.offset true
 first_at {n} {t} {shifts} {marks} {q} {c} e h = (subst (λ x. Next n t shifts marks q c true x) e h.next).1
 
@@ -246,17 +244,17 @@ module _ {n t : ℕ} {shifts marks p : List ℕ} {j k : ℕ} (w : Walking n t sh
       (sym (since_none (n * t) (erasures (layout n t shifts) marks) (λ d m. (layout_erasure w.good marks m).0))) forest_none
 
   -- the rest is passed after the first place that closes a cycle
-  pub passed_at : {q q' : List ℕ} (s : Spot) → Stepped n t shifts marks q (n * t) s.place.0 s.section s.offset true → (r : Closing)
-      → Descends n t shifts marks q' s.place.0 false r → Passed (layout n t shifts) (erasures (layout n t shifts) marks) q' (At s)
+  pub passed_at : {q q' : List ℕ} (s : Spot) → Stepped n t shifts marks q (n * t) s.place.0 s.section s.offset true → (r : Option Spot)
+      → Descends n t shifts marks q' s.place.0 false r → Passed (layout n t shifts) (erasures (layout n t shifts) marks) q' (Some s)
   unfolding layout
-  passed_at s h (At d) o = absurd (true≢false (sym o.next.0))
+  passed_at s h (Some d) o = absurd (true≢false (sym o.next.0))
   passed_at {q' = q'} s h None o = record {
     joins = subst (λ F. Joins (layout n t shifts) F q') (since_all (erasures (layout n t shifts) marks)) o.next.walking.joins;
     closed = (h.told start_forest, h.walking.stands);
   }
 
   -- there is none
-  pub passed_none : {q : List ℕ} {r : Closing} → r ≡ None → Descends n t shifts marks q (n * t) true r
+  pub passed_none : {q : List ℕ} {r : Option Spot} → r ≡ None → Descends n t shifts marks q (n * t) true r
       → Passed (layout n t shifts) (erasures (layout n t shifts) marks) q None
   passed_none {q} e h =
       let L = layout n t shifts in

@@ -1,6 +1,6 @@
 -- The walk over the marked places from high to low: its parents join the places passed, and it remembers the first place that closes a cycle.
 -- Main results: joins_more (one more place), told_join (whether it closes a cycle), passed_labelled (settled parents are labels).
-use Rattle.std.specs.Prelude.{◌≡◌, refl, Bool, true, false, List, [], ◌∷◌, ℕ, ◌+◌, ◌*◌, ◌≤◌, ◌<◌, leb, length, get_or}
+use Rattle.std.specs.Prelude.{◌≡◌, refl, Bool, true, false, List, [], ◌∷◌, ℕ, ◌+◌, ◌*◌, ◌≤◌, ◌<◌, leb, length, get_or, Option, Some, None}
 use Rattle.std.proofs.Common.{sym, ◌∙◌, ap, subst, ⊎_elim, add-one, arith, le-leb, leb-true}
 use Rattle.std.proofs.Math.Logic.{by_cases}
 use mathlib.Core.List.Memᴰ
@@ -18,8 +18,7 @@ use Rattle.code.specs.Laws.Labels.{label}
 use Rattle.code.proofs.Laws.Labels.{label_connected, connected_label, label_place, label_le, label_idem, connected_more, connected_own}
 use Rattle.tables.specs.Spots.{Stands}
 use Rattle.components.specs.Parents.{Falls, Along, Same, Settled, Unites, United, Joint, Apart}
-use Rattle.components.specs.declared.walk.Closing.{Closing}
-use Rattle.components.specs.declared.walk.Closing.TheVariants.{At, None}
+use Rattle.tables.specs.declared.walk.Spot.{Spot}
 
 -- the parents p join the places of E and nothing else
 pub record Joins (L : Layout) (E p : List ℕ) : Type 0 where
@@ -35,8 +34,8 @@ pub record Closes (L : Layout) (E : List ℕ) (c : ℕ) : Type 0 where
   pub connected : Connected L (above c E) (top L c) (bottom L c)
 
 -- what an answer says of the places E: the highest that closes a cycle, with its section and offset, or that they are a forest
-abbrev pub Closed : Layout → List ℕ → Closing → Type 0
-Closed L E (At s) = Closes L E s.place.0 × Stands L.t s.place.0 s.section s.offset
+abbrev pub Closed : Layout → List ℕ → Option Spot → Type 0
+Closed L E (Some s) = Closes L E s.place.0 × Stands L.t s.place.0 s.section s.offset
 Closed L E None = Forest L E
 
 -- the places of E from c on
@@ -44,12 +43,12 @@ unfoldable pub since : ℕ → List ℕ → List ℕ
 since c E = keep (λ d. leb c d) E
 
 -- the walk has passed every place
-pub record Passed (L : Layout) (E p : List ℕ) (k : Closing) : Type 0 where
+pub record Passed (L : Layout) (E p : List ℕ) (k : Option Spot) : Type 0 where
   pub joins : Joins L E p
   pub closed : Closed L E k
 
 -- the table is that of the labels, and the answer is right
-pub record Labelled (L : Layout) (E p : List ℕ) (k : Closing) : Type 0 where
+pub record Labelled (L : Layout) (E p : List ℕ) (k : Option Spot) : Type 0 where
   pub long : length p ≡ 2 * L.t
   pub labels : (r : ℕ) → r < 2 * L.t → get_or p r 0 ≡ label L E r
   pub closed : Closed L E k
@@ -173,11 +172,11 @@ module _ {L : Layout} {E p q : List ℕ} (c : ℕ) (r : Rising E) (m : c ∈ E) 
   told_join false u f = subst (λ F. Forest L F) (sym (since_more r m)) (forest_more (apart_connected j u.joint) f)
 
 -- the parents settled: they are the labels
-pub passed_labelled : {L : Layout} {E p q : List ℕ} {k : Closing} → Passed L E p k → Settled p q (length p) → Labelled L E q k
+pub passed_labelled : {L : Layout} {E p q : List ℕ} {k : Option Spot} → Passed L E p k → Settled p q (length p) → Labelled L E q k
 passed_labelled w s =
     let j = joins_same w.joins s.same in
     record { long = j.long; labels = joins_labels j (λ r h. s.flat r (omega (arith, s.same.long))); closed = w.closed }
 
 -- the labels are rows
-pub labelled_in : {L : Layout} {E p : List ℕ} {k : Closing} → Labelled L E p k → (r : ℕ) → r < 2 * L.t → get_or p r 0 < 2 * L.t
+pub labelled_in : {L : Layout} {E p : List ℕ} {k : Option Spot} → Labelled L E p k → (r : ℕ) → r < 2 * L.t → get_or p r 0 < 2 * L.t
 labelled_in {L} {E} m r h = omega (arith, m.labels r h, label_le L E r)

@@ -44,10 +44,8 @@ pub fn own(parent: &mut [u16])
     requires { length parent.old ≤ 65536 }
     ensures { Own parent.old parent.new (length parent.old) }
 {
-    let mut r = 0;
-    while r < parent.len() {
+    for r in 0..parent.len() {
         put_row(&mut parent[..], r, Row(r as u16));
-        r += 1;
     }
 }
 
@@ -56,11 +54,9 @@ pub(crate) fn settle(parent: &mut [u16])
     requires { Falls parent.old }
     ensures { Settled parent.old parent.new (length parent.old) }
 {
-    let mut r = 0;
-    while r < parent.len() {
+    for r in 0..parent.len() {
         let up = row_at(&parent[..], r);
         let root = row_at(&parent[..], up.0 as usize);
         put_row(&mut parent[..], r, root);
-        r += 1;
     }
 }

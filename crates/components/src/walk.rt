@@ -16,13 +16,6 @@ use plan::Place;
 use tables::rows::{bottom, top};
 use tables::walk::Spot;
 
-// The highest place that closes a cycle of marked places, with the section and the offset that the walk had there.
-#[derive(Clone, Copy)]
-pub enum Closing {
-    At(Spot),
-    None,
-}
-
 // Every place from the spot on is passed; its own closes a cycle or not.
 #[derive(Clone, Copy)]
 struct Walk {
@@ -53,10 +46,7 @@ fn byte_below(c: Place) -> usize
     requires { (0 < c.0) × (c.0 ≤ max_places) }
     ensures { (8 * result < c.0) × (c.0 ≤ 8 * result + 64) }
 {
-    if c.0 <= 64 {
-        return 0;
-    }
-    (c.0 as usize + 7) / 8 - 8
+    (c.0 as usize).div_ceil(8).saturating_sub(8)
 }
 
 // The number of places next below c that are not marked, as far as a word of marks tells.
@@ -71,10 +61,7 @@ pub fn gap(marks: &[u8], c: Place) -> usize
     let known = c.0 as usize - 8 * i;
     let word = word_from(marks, i, Place(0)) << (64 - known);
     let zeros = u64::leading_zeros(word) as usize;
-    if known < zeros {
-        return known;
-    }
-    zeros
+    zeros.min(known)
 }
 
 // The rows of the spot's place are joined. The answer: they were joined before.
@@ -104,7 +91,7 @@ fn step(n: usize, t: usize, shifts: &[u16], marks: &[u8], parent: &mut [u16], sp
     Walk { spot: at, closes }
 }
 
-// The steps from a spot on: to the next place that closes a cycle, if it is to stop there, else to the end. No place below `low` is marked.
+// The steps from a spot on: to the next place that closes a cycle, which is the answer, if it is to stop there, else to the end. No place below `low` is marked.
 fn descend(
     n: usize,
     t: usize,
@@ -114,7 +101,7 @@ fn descend(
     low: usize,
     from: Spot,
     stop: bool,
-) -> Closing
+) -> Option<Spot>
     requires { Walking n t shifts.now marks.now parent.old from.place.0 from.section from.offset × Bare marks.now low }
     ensures { Descends n t shifts.now marks.now parent.new from.place.0 stop result }
 {
@@ -124,15 +111,15 @@ fn descend(
         let passed = step(n, t, shifts, marks, &mut parent[..], spot);
         spot = passed.spot;
         if passed.closes & stop {
-            return Closing::At(spot);
+            return Some(spot);
         }
         left = spot.place.0 as usize;
     }
-    Closing::None
+    None
 }
 
 // The whole walk, from a table in which every row is its own parent. The closing place is kept outside the steps, which then have less to carry.
-fn pass(n: usize, t: usize, shifts: &[u16], marks: &[u8], parent: &mut [u16]) -> Closing
+fn pass(n: usize, t: usize, shifts: &[u16], marks: &[u8], parent: &mut [u16]) -> Option<Spot>
     requires { Walking n t shifts.now marks.now parent.old (n * t) n 0 }
     ensures { Passed (layout n t shifts.now) (erasures (layout n t shifts.now) marks.now) parent.new result }
 {
@@ -143,16 +130,14 @@ fn pass(n: usize, t: usize, shifts: &[u16], marks: &[u8], parent: &mut [u16]) ->
         section: n,
         offset: 0,
     };
-    let first = descend(n, t, shifts, marks, &mut parent[..], low, start, true);
-    let Closing::At(spot) = first else {
-        return Closing::None;
-    };
+    let spot = descend(n, t, shifts, marks, &mut parent[..], low, start, true)?;
     descend(n, t, shifts, marks, &mut parent[..], low, spot, false);
-    Closing::At(spot)
+    Some(spot)
 }
 
-// The label of every row, which is the lowest row of its component, and the highest place that closes a cycle.
-pub fn labels(n: usize, t: usize, shifts: &[u16], marks: &[u8], parent: &mut [u16]) -> Closing
+// The label of every row, which is the lowest row of its component, and the highest place that closes a cycle of marked places, with the section and the offset
+// that the walk had there.
+pub fn labels(n: usize, t: usize, shifts: &[u16], marks: &[u8], parent: &mut [u16]) -> Option<Spot>
     requires { GoodPlan n t shifts.now × (length marks.now ≡ (n * t + 7) / 8) × (length parent.old ≡ 2 * t) }
     ensures { Labelled (layout n t shifts.now) (erasures (layout n t shifts.now) marks.now) parent.new result }
 {

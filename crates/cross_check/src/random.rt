@@ -1,9 +1,8 @@
 // Numbers that a seed gives. The same seed gives the same numbers on every machine.
-use crate::buffers::{Bytes, Words, put8, put16};
-use crate::numbers::{low8, remainder};
+use crate::numbers::{low8, low16, remainder};
 
 // Marsaglia's xorshift with 13, 7 and 17.
-pub(crate) fn next(x: u64) -> u64 {
+fn next(x: u64) -> u64 {
     let a = x ^ (x << 13);
     let b = a ^ (a >> 7);
     b ^ (b << 17)
@@ -20,20 +19,37 @@ pub(crate) fn pick(seed: u64, k: u64, n: usize) -> usize {
     remainder((seeded(seed, k) >> 24) as usize, n)
 }
 
-// The first k bytes become random ones.
-pub(crate) fn fill8(s: &mut Bytes, k: usize, seed: u64) {
-    let mut x = seed | 1;
-    for i in 0..k {
-        x = next(x);
-        put8(&mut *s, i, low8((x >> 24) as usize));
+// The numbers of a seed, one after the other and without an end.
+#[derive(Drop)]
+pub(crate) struct Numbers {
+    state: u64,
+}
+
+impl Numbers {
+    pub(crate) fn new(seed: u64) -> Numbers {
+        Numbers { state: seed | 1 }
     }
 }
 
-// The first k entries become random ones.
-pub(crate) fn fill16(s: &mut Words, k: usize, seed: u64) {
-    let mut x = seed | 1;
-    for i in 0..k {
-        x = next(x);
-        put16(&mut *s, i, (x >> 24) as usize);
+impl Iterator for Numbers {
+    type Item = usize;
+
+    fn next(&mut self) -> Option<usize> {
+        self.state = next(self.state);
+        Some((self.state >> 24) as usize)
+    }
+}
+
+// Every byte becomes a random one.
+pub(crate) fn fill8(bytes: &mut [u8], seed: u64) {
+    for (byte, x) in bytes.iter_mut().zip(Numbers::new(seed)) {
+        *byte = low8(x);
+    }
+}
+
+// Every entry becomes a random one.
+pub(crate) fn fill16(entries: &mut [u16], seed: u64) {
+    for (entry, x) in entries.iter_mut().zip(Numbers::new(seed)) {
+        *entry = low16(x);
     }
 }

@@ -4,5 +4,6 @@ pub(crate) mod fixed;
 pub(crate) mod given;
 pub(crate) mod jobs;
 pub(crate) mod lent;
+pub(crate) mod library;
 pub(crate) mod plans;
 pub(crate) mod seeded;

@@ -9,7 +9,6 @@ ghost use Rattle.cycle.specs.Shows.{Closing, Room, Begun, Stripped, Showing};
 use crate::walk::walk;
 use peel::peel;
 use plan::Place;
-use slices::clear_bytes;
 use tables::count;
 use tables::walk::Spot;
 
@@ -29,7 +28,7 @@ fn picture_from(
     requires sum_len { (length sum.old ≡ 2 * t) × (length tally.old ≡ 2 * t) }
     ensures { Begun n t shifts.now marks.now c.0 sum.new tally.new }
 {
-    clear_bytes(&mut sum[..]);
+    sum.fill(0);
     count(n, t, shifts, marks, c, &mut tally[..]);
 }
 

@@ -3,7 +3,6 @@ ghost use Rattle.std.specs.Prelude.{◌≡◌, ◌+◌, ◌*◌, ◌<◌, length
 ghost use Rattle.cycle.specs.Walks.{Coupled, Mate, Mating, Paired, Walkable, Walked};
 
 use plan::{Place, Row};
-use slices::clear_words;
 use tables::lists::put_place;
 use tables::rows::{TALLY_UNIT, beside, bottom, top};
 use tables::walk::Spot;
@@ -63,7 +62,7 @@ pub(crate) fn walk(
     requires witness_len { length witness.old ≡ 2 * t }
     ensures { Walked n t shifts.now tally.now first.place.0 witness.new result }
 {
-    clear_words(&mut witness[..]);
+    witness.fill(0);
     let mut spot = first;
     let mut z = 0;
     loop {

@@ -1,7 +1,7 @@
 -- What an attempt by peeling shows. Main results: tried_fills, tried_recovers (nothing is left: the block is filled with the one codeword that agrees),
 -- tried_explains (otherwise the refusal is explained: if the erasures are a forest, no codeword agrees), sum_array, cut_arrays (tables of any size),
 -- call_given, call_decided (the call).
-use Rattle.std.specs.Prelude.{◌≡◌, refl, Bool, true, false, List, [], ℕ, ◌*◌, ◌≤◌, ◌<◌, length, get_or, take}
+use Rattle.std.specs.Prelude.{◌≡◌, refl, Bool, true, false, List, [], ℕ, ◌*◌, ◌≤◌, ◌<◌, length, get_or, take, Ok}
 use Rattle.std.proofs.Common.{sym, ◌∙◌, inl, true≢false, arith, ext_get_or, length-take-le}
 use Rattle.std.proofs.Math.Path.{ap}
 use Rattle.std.proofs.Math.Logic.{by_cases}
@@ -35,7 +35,6 @@ use Rattle.starts.specs.Starts.{Startable}
 use Rattle.settling.specs.Fill.{filled, Fillable, filled_long, filled_out, filled_at, clean_of, clean_zero, zero_clean}
 use Rattle.calls.specs.Calls.{check_of}
 use Rattle.calls.proofs.CallsLaws.{pass_good, pass_spare}
-use Rattle.refusals.specs.declared.Check.TheVariants.{Pass}
 use Rattle.promises.specs.Promises.{Decides, Recovers, recover_lent}
 use Rattle.promises.proofs.Building.{decides_recovered, recovers_passed, recover_lengths}
 use Rattle.answers.specs.declared.Recovery.{Recovery}
@@ -234,7 +233,7 @@ module _ {n t : ℕ} {shifts block marks witness sum tally place value : List �
 
 -- ---- the call
 
-pub call_given : (p : Plan) (v m w : List ℕ) → check_of p (recover_lent v m w) m ≡ Pass → Given p.n p.t p.shifts v m w
+pub call_given : (p : Plan) (v m w : List ℕ) → check_of p (recover_lent v m w) m ≡ Ok tt → Given p.n p.t p.shifts v m w
 unfolding layout_of layout mark_bytes
 call_given p v m w pass =
     let l = recover_lengths p v m w pass in
@@ -248,7 +247,7 @@ call_given p v m w pass =
       witness_long = l.2;
     }
 
-pub call_decided : (p : Plan) (v m w : List ℕ) {r : Recovery} {v' w' : List ℕ} → check_of p (recover_lent v m w) m ≡ Pass
+pub call_decided : (p : Plan) (v m w : List ℕ) {r : Recovery} {v' w' : List ℕ} → check_of p (recover_lent v m w) m ≡ Ok tt
     → Decides (layout p.n p.t p.shifts) (erasures (layout p.n p.t p.shifts) m) v r v' w' → Recovers p v m w r v' w'
 unfolding layout_of
 call_decided p v m w pass d = recovers_passed p v m w pass d

@@ -16,14 +16,7 @@ const INPUT: usize = 65536;
 
 const SHEET: usize = 65536;
 
-// What follows, and whether anything does.
-#[derive(Clone, Copy)]
-struct Next {
-    stream: Stream,
-    more: bool,
-}
-
-// The number of bytes that a read put there; below 0 where it failed.
+// The number of bytes that a read put there; below 0 where it failed, which is what `brought` takes: its theorems speak of that number.
 fn count(got: io::Result<usize>) -> isize
     ensures read { IfOk got (λ n. n < 2 ^ 63 → result ≡ pos n) }
     ensures failed { OnErr got (result ≡ negsuc 0) }
@@ -46,23 +39,13 @@ fn write(rt: &HostRuntime, stream: Stream, sheet: &[u8]) -> Stream {
     written(stream, done)
 }
 
-// What is asked for.
-fn answer(rt: &HostRuntime, worked: Worked, sheet: &[u8], input: &mut [u8]) -> Next {
+// What is asked for; none where nothing more is.
+fn answer(rt: &HostRuntime, worked: Worked, sheet: &[u8], input: &mut [u8]) -> Option<Stream> {
     let here = worked.stream;
-    let ask = worked.ask;
-    match ask {
-        Ask::Read => Next {
-            stream: read(rt, here, input),
-            more: true,
-        },
-        Ask::Write => Next {
-            stream: write(rt, here, sheet),
-            more: true,
-        },
-        _ => Next {
-            stream: here,
-            more: false,
-        },
+    match worked.ask {
+        Ask::Read => Some(read(rt, here, input)),
+        Ask::Write => Some(write(rt, here, sheet)),
+        _ => None,
     }
 }
 
@@ -74,7 +57,7 @@ fn turn(
     marks: &mut [u8],
     sheet: &mut [u8],
     input: &mut [u8],
-) -> Next {
+) -> Option<Stream> {
     let worked = work(stream, block, marks, &mut sheet[..], &mut input[..]);
     answer(rt, worked, sheet, input)
 }
@@ -83,18 +66,17 @@ fn turn(
 fn run(rt: &HostRuntime, block: &mut [u8], marks: &mut [u8], sheet: &mut [u8], input: &mut [u8]) {
     let mut stream = opened();
     for _ in 0..u64::MAX {
-        let next = turn(
+        let Some(next) = turn(
             rt,
             stream,
             &mut block[..],
             &mut marks[..],
             &mut sheet[..],
             &mut input[..],
-        );
-        if !next.more {
+        ) else {
             return;
-        }
-        stream = next.stream;
+        };
+        stream = next;
     }
 }
 

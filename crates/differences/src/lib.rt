@@ -14,8 +14,8 @@ fn difference(t: usize, s: &[u16], i: usize, j: usize) -> usize
     requires { TwoOf t s.now i j }
     ensures { (result ≡ difference_of t s.now i j) × (result < t) }
 {
-    let p = shifts::wide(s[i]);
-    let q = shifts::wide(s[j]);
+    let p = usize::from(s[i]);
+    let q = usize::from(s[j]);
     if p < q {
         return p + t - q;
     }
@@ -43,12 +43,10 @@ fn mark_row(n: usize, t: usize, s: &[u16], i: usize, marks: &mut [u8]) -> bool
     requires { GoodPlan n t s.now × (i < n) × Marked n t s.now i 0 marks.old }
     ensures { RowDone n t s.now i marks.new result }
 {
-    let mut j = 0;
-    while j < n {
-        if !mark(t, s, i, j, &mut marks[..]) {
+    for j in 0..n {
+        if !mark(t, s, i, j, marks) {
             return false;
         }
-        j += 1;
     }
     true
 }
@@ -59,12 +57,10 @@ pub fn all_distinct(n: usize, t: usize, s: &[u16]) -> bool
     ensures { KeepsRule n t s.now result }
 {
     let mut marks = [0u8; Plan::MAX_T];
-    let mut i = 0;
-    while i < n {
-        if !mark_row(n, t, s, i, &mut marks[..]) {
+    for i in 0..n {
+        if !mark_row(n, t, s, i, &mut marks) {
             return false;
         }
-        i += 1;
     }
     true
 }

@@ -1,22 +1,20 @@
 -- A command that is known: what does not refuse it, and that it was performed.
 -- Main results: refusal_is, shift_any; quiet_acts, told_acts.
-use Rattle.std.specs.Prelude.{◌≡◌, List, [], ℕ, take}
+use Rattle.std.specs.Prelude.{◌≡◌, List, [], ℕ, take, Ok}
 use Rattle.std.proofs.Common.{sym, subst}
-use Rattle.refusals.specs.declared.Check.TheVariants.{Pass}
 use Rattle.commands.specs.declared.Command.{Command}
 use Rattle.commands.specs.declared.Command.TheVariants.{SetShift}
 use Rattle.lines.specs.Lines.{Wrote}
 use Rattle.lines.proofs.LinesLaws.{wrote_none}
 use Rattle.state.specs.State.{State}
 use Rattle.state.specs.Refusing.{refusal_of}
-use Rattle.act.specs.Acts.{state_of, Acts}
-use Rattle.act.specs.declared.Held.{Held}
+use Rattle.act.specs.Acts.{state_of, Acts, Held}
 
-pub refusal_is : (s : State) {c k : Command} → c ≡ k → refusal_of s c ≡ Pass → refusal_of s k ≡ Pass
-refusal_is s e r = subst (λ (x : Command). refusal_of s x ≡ Pass) e r
+pub refusal_is : (s : State) {c k : Command} → c ≡ k → refusal_of s c ≡ Ok tt → refusal_of s k ≡ Ok tt
+refusal_is s e r = subst (λ (x : Command). refusal_of s x ≡ Ok tt) e r
 
 -- a shift depends on the plan alone
-pub shift_any : (h : Held) (v m v' m' : List ℕ) (j p : ℕ) → refusal_of (state_of h v m) (SetShift j p) ≡ Pass → refusal_of (state_of h v' m') (SetShift j p) ≡ Pass
+pub shift_any : (h : Held) (v m v' m' : List ℕ) (j p : ℕ) → refusal_of (state_of h v m) (SetShift j p) ≡ Ok tt → refusal_of (state_of h v' m') (SetShift j p) ≡ Ok tt
 unfolding refusal_of state_of
 shift_any h v m v' m' j p e = e
 

@@ -1,6 +1,6 @@
 -- What two sections share, and the most that a pair of a relation shares: the greatest divisor gives the least figure.
 -- Main definitions: sharing, Most, NeighbourOf.
-use Rattle.std.specs.Prelude.{◌≡◌, ◌⊎◌, List, ℕ, ◌≤◌, ◌<◌, get_or}
+use Rattle.std.specs.Prelude.{◌≡◌, ◌⊎◌, List, Option, Some, ℕ, ◌≤◌, ◌<◌, get_or}
 use Rattle.math.specs.Gcd.{gcd, gap}
 use Rattle.plan.specs.Layout.{layout}
 use Rattle.code.specs.Figures.{Neighbours}
@@ -37,10 +37,10 @@ Near n t s j k l = (k ≡ j) × Neighbours (layout n t s) k l
 abbrev pub Passed : ℕ → ℕ → List ℕ → ℕ → ℕ → ℕ → Type 0
 Passed n t s j k l = (k < j) × Neighbours (layout n t s) k l
 
--- r is the one neighbour of section j, or no section where there is none
-pub record NeighbourOf (n j r : ℕ) : Type 0 where
-  pub is : (t : ℕ) (s : List ℕ) → r < n → Neighbours (layout n t s) j r
-  pub only : (t : ℕ) (s : List ℕ) (k : ℕ) → Neighbours (layout n t s) j k → (k ≡ r) × (r < n)
+-- r is the one neighbour of section j, or None where there is none
+pub record NeighbourOf (n j : ℕ) (r : Option ℕ) : Type 0 where
+  pub is : (t : ℕ) (s : List ℕ) (k : ℕ) → r ≡ Some k → Neighbours (layout n t s) j k
+  pub only : (t : ℕ) (s : List ℕ) (k : ℕ) → Neighbours (layout n t s) j k → r ≡ Some k
 
 pub record Greater (a b r : ℕ) : Type 0 where
   pub first : a ≤ r

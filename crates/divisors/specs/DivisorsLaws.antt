@@ -1,8 +1,8 @@
 -- The greatest divisor over the pairs of a relation: its turns over a row, over all pairs and over the neighbours, and the figure that it gives.
 -- Main results: pairs_all, near_all, figure_least.
-use Rattle.std.specs.Prelude.{◌≡◌, refl, ◌⊎◌, List, ℕ, ◌+◌, ◌-◌, ◌*◌, ◌/◌, ◌≤◌, ◌<◌, get_or}
+use Rattle.std.specs.Prelude.{◌≡◌, refl, ◌⊎◌, List, [], Some, None, ℕ, ◌+◌, ◌-◌, ◌*◌, ◌/◌, ◌≤◌, ◌<◌, max, get_or}
 use Rattle.std.proofs.Common.{◌∙◌, ap₂, subst, inl, inr, ⊎_elim, le_trans, le-div_iff_mul-le, div-mul-le_self, mul-le-mul_left}
-use Rattle.std.proofs.Math.Path.{ap}
+use Rattle.std.proofs.Math.Path.{ap, sym}
 use Rattle.std.proofs.Math.Logic.{by_cases}
 use native.Mathlib.Omega.{arith}
 use Rattle.std.proofs.Math.Decide.{dec_lt, ℕ_discrete}
@@ -32,6 +32,10 @@ share_is t s i j hx hy hz hg = hg ∙ ap (λ (d : ℕ). gcd d t) (hz ∙ ap₂ g
 
 pub figure_fits : {t g : ℕ} → 0 < g → g ≤ t → 1 ≤ 2 * t / g
 figure_fits h l = (le-div_iff_mul-le h).1 (omega arith)
+
+-- the greater of two is `max`
+pub greater_max : (a b : ℕ) → Greater a b (max a b)
+greater_max a b = record { first = omega arith; second = omega arith; either = by_cases (dec_lt a b) (λ h. inr (omega arith)) (λ h. inl (omega arith)) }
 
 module _ {t : ℕ} {s : List ℕ} where
   -- no pair, and the pairs of two relations together
@@ -98,15 +102,15 @@ module _ {t : ℕ} {s : List ℕ} where
 
 -- the neighbours, one section at a time
 module _ (n : ℕ) {t : ℕ} {s : List ℕ} where
-  pub near_none : {j r : ℕ} → NeighbourOf n j r → n ≤ r → Most t s (Near n t s j) 0
-  near_none {j} {r} o h =
+  pub near_none : {j : ℕ} → NeighbourOf n j None → Most t s (Near n t s j) 0
+  near_none {j} o =
       most_none
-      (λ k l q. let x = o.only t s l (subst (λ (y : ℕ). Neighbours (layout n t s) y l) q.0 q.1) in omega arith)
+      (λ k l q. let x = o.only t s l (subst (λ (y : ℕ). Neighbours (layout n t s) y l) q.0 q.1) in cc)
 
-  pub near_one : {j r g : ℕ} → NeighbourOf n j r → r < n → g ≡ sharing t s j r → Most t s (Near n t s j) g
-  near_one {j} {r} o h e =
-      most_one j r e (refl, o.is t s h)
-      (λ k l q. (q.0, (o.only t s l (subst (λ (y : ℕ). Neighbours (layout n t s) y l) q.0 q.1)).0))
+  pub near_one : {j r g : ℕ} → NeighbourOf n j (Some r) → g ≡ sharing t s j r → Most t s (Near n t s j) g
+  near_one {j} {r} o e =
+      most_one j r e (refl, o.is t s r refl)
+      (λ k l q. (q.0, let x = o.only t s l (subst (λ (y : ℕ). Neighbours (layout n t s) y l) q.0 q.1) in cc))
 
   pub near_start : Most t s (Passed n t s 0) 0
   near_start = most_none (λ k l q. omega arith)
@@ -157,28 +161,35 @@ module _ (n : ℕ) {t : ℕ} {s : List ℕ} where
       less y l p = (le-div_iff_mul-le p).1 (le_trans (mul-le-mul_left (2 * t / g) l) (div-mul-le_self (2 * t) g))
 
 -- the neighbour of section j: the one after it
-pub next_neighbour : {n j : ℕ} → j + 1 < n → NeighbourOf n j (j + 1)
+pub next_neighbour : {n j : ℕ} → j + 1 < n → NeighbourOf n j (Some (j + 1))
 unfolding layout
 next_neighbour {n} {j} h =
     record {
-      is = λ t s b. record { pair = record { first = ∈_up_to (omega arith); second = ∈_up_to b; differ = omega arith }; next = inl refl };
-      only = λ t s k q. (⊎_elim (λ e. e) (λ e. absurd (omega (arith, e.1))) q.next, h);
+      is = λ t s k e. let q : j + 1 ≡ k = cc in
+          record { pair = record { first = ∈_up_to (omega arith); second = ∈_up_to (omega arith); differ = omega arith }; next = inl (sym q) };
+      only = λ t s k q. ap Some (sym (⊎_elim (λ e. e) (λ e. absurd (omega (arith, e.1))) q.next));
     }
 
 -- of the last of three or more, the first
-pub around_neighbour : {n j : ℕ} → j < n → n ≤ j + 1 → 3 ≤ n → NeighbourOf n j 0
+pub around_neighbour : {n j : ℕ} → j < n → n ≤ j + 1 → 3 ≤ n → NeighbourOf n j (Some 0)
 unfolding layout
 around_neighbour {n} {j} h l m =
     record {
-      is = λ t s b. record { pair = record { first = ∈_up_to h; second = ∈_up_to b; differ = omega arith }; next = inr (m, omega arith, refl) };
-      only = λ t s k q. (⊎_elim (λ e. let b = up_to_∈ n q.pair.second in absurd (omega arith)) (λ e. e.2) q.next, omega arith);
+      is = λ t s k e. let q : ◌≡◌ {A = ℕ} 0 k = cc in
+          record { pair = record { first = ∈_up_to h; second = ∈_up_to (omega arith); differ = omega arith }; next = inr (m, omega arith, sym q) };
+      only = λ t s k q. ap Some (sym (⊎_elim (λ e. let b = up_to_∈ n q.pair.second in absurd (omega arith)) (λ e. e.2) q.next));
     }
 
 -- of the last of fewer, none
-pub no_neighbour : {n j : ℕ} → n ≤ j + 1 → n < 3 → NeighbourOf n j n
+pub no_neighbour : {n j : ℕ} → n ≤ j + 1 → n < 3 → NeighbourOf n j None
 unfolding layout
 no_neighbour {n} {j} l m =
     record {
-      is = λ t s b. absurd (omega arith);
+      is = λ t s k e. cc;
       only = λ t s k q. absurd (⊎_elim (λ e. let b = up_to_∈ n q.pair.second in omega arith) (λ e. omega (arith, e.0)) q.next);
     }
+
+-- a neighbour is one of the sections
+pub neighbour_below : {n j k : ℕ} → NeighbourOf n j (Some k) → k < n
+unfolding layout
+neighbour_below {n} {k = k} o = let b = up_to_∈ n (o.is 0 [] k refl).pair.second in omega arith

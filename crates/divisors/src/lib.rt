@@ -7,7 +7,7 @@ ghost use Rattle.std.specs.Prelude.{◌≡◌, ◌-◌, ◌*◌, ◌/◌, ◌≤
 ghost use Rattle.bounds.specs.Bounds.{max_t};
 ghost use Rattle.plan.specs.Layout.{layout};
 ghost use Rattle.code.specs.Figures.{Neighbours};
-ghost use Rattle.divisors.specs.Divisors.{sharing, Most, Row, Ordered, Near, NeighbourOf, Greater};
+ghost use Rattle.divisors.specs.Divisors.{sharing, Most, Row, Ordered, Near, NeighbourOf};
 
 use shifts::gcd;
 
@@ -16,16 +16,7 @@ fn share(t: usize, s: &[u16], i: usize, j: usize) -> usize
     requires { (i < length s.now) × (j < length s.now) }
     ensures { result ≡ sharing t s.now i j }
 {
-    gcd(shifts::gap(shifts::wide(s[i]), shifts::wide(s[j])), t)
-}
-
-fn greater(a: usize, b: usize) -> usize
-    ensures { Greater a b result }
-{
-    if a < b {
-        return b;
-    }
-    a
+    gcd(usize::from(s[i]).abs_diff(usize::from(s[j])), t)
 }
 
 // Over the pairs of section i with a section before it.
@@ -33,11 +24,9 @@ fn of_row(t: usize, s: &[u16], i: usize) -> usize
     requires { i < length s.now }
     ensures { Most t s.now (Row i i) result }
 {
-    let mut g = 0;
-    let mut j = 0;
-    while j < i {
-        g = greater(g, share(t, s, j, i));
-        j += 1;
+    let mut g: usize = 0;
+    for j in 0..i {
+        g = g.max(share(t, s, j, i));
     }
     g
 }
@@ -47,28 +36,26 @@ pub fn of_pairs(n: usize, t: usize, s: &[u16]) -> usize
     requires { n ≤ length s.now }
     ensures { Most t s.now (Ordered n) result }
 {
-    let mut g = 0;
-    let mut i = 0;
-    while i < n {
-        g = greater(g, of_row(t, s, i));
-        i += 1;
+    let mut g: usize = 0;
+    for i in 0..n {
+        g = g.max(of_row(t, s, i));
     }
     g
 }
 
-// The choice of neighbours: the section that comes after j around the drum, or n where there is none.
-fn neighbour_of(n: usize, j: usize) -> usize
+// The choice of neighbours: the section that comes after j around the drum, if there is one.
+fn neighbour_of(n: usize, j: usize) -> Option<usize>
     requires { j < n }
     ensures { NeighbourOf n j result }
 {
     let next = j + 1;
     if next < n {
-        return next;
+        return Some(next);
     }
     if n < 3 {
-        return n;
+        return None;
     }
-    0
+    Some(0)
 }
 
 // Over section j and its neighbour; 0 where it has none.
@@ -76,11 +63,10 @@ fn of_near(n: usize, t: usize, s: &[u16], j: usize) -> usize
     requires { (j < n) × (n ≤ length s.now) }
     ensures { Most t s.now (Near n t s.now j) result }
 {
-    let k = neighbour_of(n, j);
-    if n <= k {
-        return 0;
+    match neighbour_of(n, j) {
+        Some(k) => share(t, s, j, k),
+        None => 0,
     }
-    share(t, s, j, k)
 }
 
 // Over all neighbours.
@@ -88,11 +74,9 @@ pub fn of_neighbours(n: usize, t: usize, s: &[u16]) -> usize
     requires { n ≤ length s.now }
     ensures { Most t s.now (Neighbours (layout n t s.now)) result }
 {
-    let mut g = 0;
-    let mut j = 0;
-    while j < n {
-        g = greater(g, of_near(n, t, s, j));
-        j += 1;
+    let mut g: usize = 0;
+    for j in 0..n {
+        g = g.max(of_near(n, t, s, j));
     }
     g
 }

@@ -1,7 +1,8 @@
 -- Why a block is refused. It is known by the sums of its rows, with whatever symbols at the erasures: these enter each component twice. So an
 -- explanation is right for every block with these sums.
 -- Main results: explains_crossed, explains_loose (the two refusals), loosens_shown, loosens_forest (the cycle, or none).
-use Rattle.std.specs.Prelude.{◌≡◌, refl, List, ℕ, ◌*◌, ◌<◌, length, get_or}
+use Rattle.std.specs.Prelude.{◌≡◌, refl, List, ℕ, ◌*◌, ◌<◌, length, get_or, Option, Some}
+use Rattle.std.specs.Prelude as Prelude
 use Rattle.std.proofs.Common.{sym, ◌∙◌}
 use Rattle.std.proofs.Math.Path.{subst}
 use Rattle.plan.specs.Layout.{Layout, Valid, layout}
@@ -20,11 +21,6 @@ use Rattle.tables.specs.Spots.{Stands}
 use Rattle.tables.specs.declared.walk.Spot.{Spot}
 use Rattle.components.specs.Walks.{Closed, Labelled, labelled_in}
 use Rattle.components.specs.Shows.{Lent, Shows, Unbalanced, crossed_inconsistent, balanced_imbalance}
-use Rattle.components.specs.declared.walk.Closing.{Closing}
-use Rattle.components.specs.declared.walk.Closing.TheVariants.{At}
-use Rattle.components.specs.declared.walk.Closing.TheVariants as closing
-use Rattle.components.specs.declared.sums.Rows.{Rows}
-use Rattle.components.specs.declared.sums.Rows.TheVariants as rows
 use Rattle.cycle.specs.Shows as cycle
 use Rattle.promises.specs.Promises.{Decides}
 use Rattle.promises.proofs.Building.{decides_loose, decides_crossed}
@@ -61,8 +57,8 @@ module _ (L : Layout) (ok : Valid L) (E v : List ℕ) (x : ℕ → ℕ) (off : (
     written = u.written;
   }
 
-module _ (L : Layout) (ok : Valid L) {E : List ℕ} (er : Erased L E) {parent sum : List ℕ} {k : Closing} (labelled : Labelled L E parent k) where
-  pub explains_crossed : {w w' : List ℕ} {z : ℕ} → Shows L.t parent sum w w' (rows.Crossed z) → Explains L E sum (Crossed z) w'
+module _ (L : Layout) (ok : Valid L) {E : List ℕ} (er : Erased L E) {parent sum : List ℕ} {k : Option Spot} (labelled : Labelled L E parent k) where
+  pub explains_crossed : {w w' : List ℕ} {z : ℕ} → Shows L.t parent sum w w' (Some z) → Explains L E sum (Crossed z) w'
   explains_crossed {w' = w'} {z = z} shows = record {
     decides = λ v x long byte off sums none.
         let u : Unbalanced L E (blank E (at v)) z w' = unbalanced_same L ok E v x off (shows.says L E x refl labelled.labels sums) in
@@ -70,7 +66,7 @@ module _ (L : Layout) (ok : Valid L) {E : List ℕ} (er : Erased L E) {parent su
         (decides_crossed ok er (crossed_inconsistent ok.positive u) u.written);
   }
 
-  pub explains_loose : {w w₁ w' : List ℕ} {r : Recovery} → Shows L.t parent sum w w₁ rows.Balanced → Loosens L E r w' → Explains L E sum r w'
+  pub explains_loose : {w w₁ w' : List ℕ} {r : Recovery} → Shows L.t parent sum w w₁ Prelude.None → Loosens L E r w' → Explains L E sum r w'
   explains_loose shows loose = record {
     decides = λ v x long byte off sums.
         loose.decides v (exists L ok E v er long byte
@@ -78,7 +74,7 @@ module _ (L : Layout) (ok : Valid L) {E : List ℕ} (er : Erased L E) {parent su
   }
 
 -- without a closing place there is a forest
-pub closed_none : (L : Layout) (E : List ℕ) {k : Closing} → k ≡ closing.None → Closed L E k → Forest L E
+pub closed_none : (L : Layout) (E : List ℕ) {k : Option Spot} → k ≡ Prelude.None → Closed L E k → Forest L E
 closed_none L E e h = subst (λ i. Closed L E i) e h
 
 -- a forest has no cycle, and no block with a forest of erasures is asked about
@@ -87,12 +83,12 @@ loosens_forest f = record { decides = λ v a none. absurd (none f a.0 a.1) }
 
 module _ {n t : ℕ} {shifts marks : List ℕ} (m : Scan.Lent n t shifts marks) where
   -- the closing place, with its section and offset
-  pub closed_at : {k : Closing} {s : Spot} → k ≡ At s → Closed (layout n t shifts) (erasures (layout n t shifts) marks) k
+  pub closed_at : {k : Option Spot} {s : Spot} → k ≡ Some s → Closed (layout n t shifts) (erasures (layout n t shifts) marks) k
       → cycle.Closing n t shifts marks s.place.0 × Stands t s.place.0 s.section s.offset
   unfolding layout
   closed_at {s = s} e h =
       let E = erasures (layout n t shifts) marks in
-      let q : Closed (layout n t shifts) E (At s) = subst (λ k. Closed (layout n t shifts) E k) e h in (
+      let q : Closed (layout n t shifts) E (Some s) = subst (λ k. Closed (layout n t shifts) E k) e h in (
         record {
           good = m.good;
           marks_long = m.marks_long;
@@ -114,7 +110,7 @@ module _ {n t : ℕ} {shifts marks : List ℕ} (m : Scan.Lent n t shifts marks) 
   }
 
   -- the labels of the rows, and the sums
-  module _ {parent : List ℕ} {k : Closing} (labelled : Labelled (layout n t shifts) (erasures (layout n t shifts) marks) parent k) where
+  module _ {parent : List ℕ} {k : Option Spot} (labelled : Labelled (layout n t shifts) (erasures (layout n t shifts) marks) parent k) where
     pub labels_lent : {sum total w : List ℕ} → length sum ≡ 2 * t → length total ≡ 2 * t → length w ≡ 2 * t → Lent t parent sum total w
     unfolding layout
     labels_lent ls lt lw = record {
@@ -127,13 +123,13 @@ module _ {n t : ℕ} {shifts marks : List ℕ} (m : Scan.Lent n t shifts marks) 
       parent_in = labelled_in labelled;
     }
 
-    pub labels_crossed : {sum w w' : List ℕ} {z : ℕ} {a : Rows} → Shows t parent sum w w' a → a ≡ rows.Crossed z
+    pub labels_crossed : {sum w w' : List ℕ} {z : ℕ} {a : Option ℕ} → Shows t parent sum w w' a → a ≡ Some z
         → Explains (layout n t shifts) (erasures (layout n t shifts) marks) sum (Crossed z) w'
     unfolding layout
     labels_crossed shows e =
         explains_crossed (layout n t shifts) (plan_valid m.good) (erasures_erased (layout n t shifts) marks) labelled (rw e at shows)
 
-    pub labels_loose : {sum w w₁ w' : List ℕ} {a : Rows} {r : Recovery} → Shows t parent sum w w₁ a → a ≡ rows.Balanced
+    pub labels_loose : {sum w w₁ w' : List ℕ} {a : Option ℕ} {r : Recovery} → Shows t parent sum w w₁ a → a ≡ Prelude.None
         → Loosens (layout n t shifts) (erasures (layout n t shifts) marks) r w'
         → Explains (layout n t shifts) (erasures (layout n t shifts) marks) sum r w'
     unfolding layout

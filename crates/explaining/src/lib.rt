@@ -12,9 +12,10 @@ ghost use Rattle.tables.specs.Scan.{Lent};
 ghost use Rattle.explaining.specs.Explains.{Explains, Loosens};
 
 use answers::Recovery;
-use components::sums::{Rows, crossed};
-use components::walk::{Closing, labels};
+use components::sums::crossed;
+use components::walk::labels;
 use cycle::show;
+use tables::walk::Spot;
 
 // The first component that does not add up; where all do, a cycle. The labels and the totals take the room of the places and the values.
 pub fn explain(
@@ -34,8 +35,8 @@ pub fn explain(
 {
     let closing = labels(n, t, shifts, marks, &mut place[..]);
     match crossed(t, &place[..], &sum[..], &mut value[..], &mut witness[..]) {
-        Rows::Crossed(z) => Recovery::Crossed(z),
-        Rows::Balanced => loose(
+        Some(z) => Recovery::Crossed(z),
+        None => loose(
             n, t, shifts, marks, closing, sum, tally, place, value, witness,
         ),
     }
@@ -47,7 +48,7 @@ fn loose(
     t: usize,
     shifts: &[u16],
     marks: &[u8],
-    closing: Closing,
+    closing: Option<Spot>,
     sum: &mut [u8],
     tally: &mut [u16],
     place: &mut [u16],
@@ -59,7 +60,7 @@ fn loose(
     requires room { Room t sum.old tally.old place.old value.old × (length witness.old ≡ 2 * t) }
     ensures { Loosens (layout n t shifts.now) (erasures (layout n t shifts.now) marks.now) result witness.new }
 {
-    let Closing::At(spot) = closing else {
+    let Some(spot) = closing else {
         return Recovery::Loose(0);
     };
     Recovery::Loose(show(n, t, shifts, marks, spot, sum, tally, place, value, witness))

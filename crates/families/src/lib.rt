@@ -7,20 +7,9 @@ ghost use Rattle.families.specs.Families.{powers_need};
 
 use shifts::gcd;
 
+#[tactic(auto, unfolding(crate::specs::Families::powers_need))]
 pub fn powers_need(n: usize, t: usize, q: usize) -> bool
     ensures { result ≡ powers_need n t q }
 {
-    if n < 3 {
-        return false;
-    }
-    if t < n {
-        return false;
-    }
-    if q < 2 {
-        return false;
-    }
-    if gcd(t, q) != 1 {
-        return false;
-    }
-    gcd(t, q - 1) == 1
+    3 <= n && n <= t && 2 <= q && gcd(t, q) == 1 && gcd(t, q - 1) == 1
 }

@@ -2,7 +2,7 @@
 // Public for the crates above only.
 #![tactic(auto)]
 
-ghost use Rattle.std.specs.Prelude.{◌≡◌, true, List, ◌∷◌, ℕ, ◌+◌, ◌*◌, ◌/◌, ◌≤◌, ◌<◌, length, take};
+ghost use Rattle.std.specs.Prelude.{◌≡◌, Some, List, ◌∷◌, ℕ, ◌+◌, ◌*◌, ◌/◌, ◌≤◌, ◌<◌, length, take};
 ghost use Rattle.bounds.specs.Bounds.{max_places};
 ghost use Rattle.code.specs.Laws.MarksLaws.{places_of};
 ghost use Rattle.pieces.specs.Pieces.{fields, Appends};
@@ -12,7 +12,7 @@ ghost use Rattle.commands.specs.declared.Command.TheVariants as commands;
 ghost use Rattle.act.specs.Acts.{Kept, Acts};
 ghost use Rattle.fetching.specs.FetchingLaws.{GoodMarks, Listed};
 
-use act::{Held, MARKS};
+use act::MARKS;
 use bits::marks::bit;
 use fetch::fetch;
 use pieces::{finish, put_number, put_word};
@@ -35,10 +35,8 @@ fn put_places(line: &mut [u8], at: usize, list: &[u8], places: usize) -> usize
     ensures { Appends line.old at (fields (places_of list.now 0 places)) line.new result × (result ≤ at + 6 * places) }
 {
     let mut to = at;
-    let mut c = 0;
-    while c < places {
+    for c in 0..places {
         to = put_place(&mut line[..], to, list, Place(c as u16));
-        c += 1;
     }
     to
 }
@@ -60,15 +58,14 @@ fn tell(plan: Plan, marks: &[u8], list: &mut [u8], line: &mut [u8]) -> usize
     ensures { Listed plan marks.now (take result line.new) × Wrote line.old (take result line.new) line.new result }
 {
     let answer = fetch(plan, marks, &mut list[..]);
-    let count = answer.count();
+    let count = answer.unwrap_or(0);
     fetch_line(line, count, &list[..], plan.n * plan.t)
 }
 
-pub fn fetch_state(held: Held, marks: &[u8], line: &mut [u8]) -> usize
-    requires { (length line.old ≡ line_length) × (held.planned ≡ true) × ((v : List ℕ) × Kept held v marks.now) }
-    ensures { ((v : List ℕ) → Kept held v marks.now → Acts commands.Fetch held v marks.now (take result line.new) held v marks.now) × Wrote line.old (take result line.new) line.new result }
+pub fn fetch_state(plan: Plan, marks: &[u8], line: &mut [u8]) -> usize
+    requires { (length line.old ≡ line_length) × ((v : List ℕ) × Kept (Some plan) v marks.now) }
+    ensures { ((v : List ℕ) → Kept (Some plan) v marks.now → Acts commands.Fetch (Some plan) v marks.now (take result line.new) (Some plan) v marks.now) × Wrote line.old (take result line.new) line.new result }
 {
-    let plan = held.plan;
     let places = plan.n * plan.t;
     let bytes = (places + 7) / 8;
     let mut list = [0u8; MARKS];

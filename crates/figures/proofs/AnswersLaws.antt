@@ -1,6 +1,6 @@
 -- The parts of the answer put together.
 -- Main results: pair_least, near_least, figures_are, answered_good, answered_not, figures_not_eleven.
-use Rattle.std.specs.Prelude.{◌≡◌, ◌≢◌, List, ℕ, ◌-◌, ◌*◌, ◌/◌, ◌≤◌, ◌<◌}
+use Rattle.std.specs.Prelude.{◌≡◌, ◌≢◌, List, ℕ, ◌-◌, ◌*◌, ◌/◌, ◌≤◌, ◌<◌, Ok, Err, Result}
 use Rattle.std.proofs.Math.Path.{refl, sym, ap}
 use Rattle.std.proofs.Common.{◌∙◌, subst}
 use Rattle.std.proofs.Math.Logic.{inl}
@@ -8,7 +8,6 @@ use native.Mathlib.Omega.{arith}
 use Rattle.refusals.specs.Refusals.{check_number}
 use Rattle.refusals.proofs.RefusalLaws.{not_eleven, pass_not_stop, stop_same}
 use Rattle.refusals.specs.declared.Refusal.{Refusal}
-use Rattle.refusals.specs.declared.Check.TheVariants.{Pass, Stop}
 use Rattle.math.specs.MembersLaws.{∈_up_to, length_up_to}
 use Rattle.bounds.specs.Bounds.{max_t}
 use Rattle.plan.specs.Layout.{layout, divisor}
@@ -18,8 +17,6 @@ use Rattle.plan.specs.GoodPlan.{GoodPlan, plan_valid}
 use Rattle.code.specs.Figures.{Least, Pair, Neighbours, Capability, NonzeroWeight, Figures}
 use Rattle.code.proofs.Theorems.{parity_count}
 use Rattle.figures.specs.declared.Four.{Four}
-use Rattle.figures.specs.declared.Answer.{Answer}
-use Rattle.figures.specs.declared.Answer.TheVariants.{Are, Not}
 use Rattle.figures.specs.Answers.{said_by, Answered}
 use Rattle.divisors.specs.Divisors.{Most, Ordered}
 use Rattle.divisors.specs.DivisorsLaws.{most_pos, most_le, pairs_all, figure_least}
@@ -67,8 +64,8 @@ module _ {n t : ℕ} {s : List ℕ} (u : GoodPlan n t s) where
       record { parity_places = (p.0, (p.1, p.2 ∙ sym e)); pair_figure = a; neighbour_figure = b; distance_is = c }
 
 module _ (p : Plan) where
-  pub answered_good : {f : Four} → plan_check p ≡ Pass → Figures (layout p.n p.t p.shifts) f.parity f.pair f.neighbour f.distance
-      → Answered p (Are f)
+  pub answered_good : {f : Four} → plan_check p ≡ Ok tt → Figures (layout p.n p.t p.shifts) f.parity f.pair f.neighbour f.distance
+      → Answered p (Ok f)
   unfolding layout_of
   answered_good {f} e h =
       record {
@@ -78,16 +75,16 @@ module _ (p : Plan) where
         values = λ z. h;
       }
 
-  pub answered_not : {x : Refusal} → plan_check p ≡ Stop x → Answered p (Not x)
+  pub answered_not : {x : Refusal} → plan_check p ≡ Err x → Answered p (Err x)
   answered_not {x} e =
       record {
         good = λ z. absurd (pass_not_stop x (sym z ∙ e));
-        refused = λ y z. ap Not (stop_same (sym e ∙ z));
+        refused = λ y z. ap Err (stop_same (sym e ∙ z));
         number = ap check_number (sym e);
         values = λ z. absurd (pass_not_stop x (sym z ∙ e));
       }
 
 -- no answer has the number that is struck from the table (document 02, N4)
-pub figures_not_eleven : (a : Answer) → (said_by a).number ≢ 11
-figures_not_eleven (Are f) e = omega (arith, e)
-figures_not_eleven (Not x) e = not_eleven x e
+pub figures_not_eleven : (a : Result Four Refusal) → (said_by a).number ≢ 11
+figures_not_eleven (Ok f) e = omega (arith, e)
+figures_not_eleven (Err x) e = not_eleven x e

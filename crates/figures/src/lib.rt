@@ -8,7 +8,7 @@ ghost use Rattle.code.specs.Figures.{Figures};
 ghost use Rattle.figures.specs.Answers.{Answered};
 
 use plan::Plan;
-use refusals::{Check, Refusal};
+use refusals::Refusal;
 
 mod distance;
 mod parity;
@@ -22,22 +22,12 @@ pub struct Four {
 }
 
 // The figures of a plan, or its refusal.
-#[derive(Clone, Copy)]
-pub enum Answer {
-    Are(Four),
-    Not(Refusal),
-}
-
-pub fn figures(plan: Plan) -> Answer
+pub fn figures(plan: Plan) -> Result<Four, Refusal>
     ensures { Answered plan result }
 {
-    let n = plan.n;
-    let t = plan.t;
     let s = plan.shifts;
-    match plan.check() {
-        Check::Pass => Answer::Are(of_good(n, t, &s[..])),
-        Check::Stop(x) => Answer::Not(x),
-    }
+    plan.check()?;
+    Ok(of_good(plan.n, plan.t, &s[..]))
 }
 
 // The figures of a plan that is not refused. Public for the crates above only.

@@ -3,7 +3,7 @@
 use Rattle.std.specs.Prelude.{◌≡◌, Bool, List, ℕ}
 use Rattle.std.proofs.Common.{sym, ◌∙◌, ⊎_elim}
 use Rattle.refusals.proofs.RefusalLaws.{stop_or_pass}
-use Rattle.act.specs.declared.Held.{Held}
+use Rattle.act.specs.Acts.{Held}
 use Rattle.standing.specs.Standing.{held_check}
 use Rattle.standing.specs.StandingLaws.{pass_kept}
 use Rattle.turns.proofs.TurnsOnce.{same_once, turns_once}

@@ -11,18 +11,17 @@ ghost use Rattle.act.specs.Acts.{Kept};
 ghost use Rattle.turns.specs.Turns.{Turns};
 ghost use Rattle.job.specs.Performs.{Performs};
 
-use act::Held;
 use act::plans::{begin, made};
 use commands::{Command, Parsed, parse, size_of};
 use dispatch::dispatch;
-use refusals::Check;
+use plan::Plan;
 use standing::check_held;
 use state::refusing::{makes_plan, refusal};
 use turns::{Step, Turn, at_end, cut_off, stop, unknown};
 
 // Performs the command at the front of the bytes. `last`: no more bytes come. `offset`: where the bytes stand in the job.
 pub fn perform(
-    held: Held,
+    held: Option<Plan>,
     block: &mut [u8],
     marks: &mut [u8],
     line: &mut [u8],
@@ -33,17 +32,17 @@ pub fn perform(
     ensures { Performs held block.old marks.old line.old bytes.now last offset result.turn result.held block.new marks.new line.new }
 {
     match check_held(held, &block[..], &marks[..], &line[..]) {
-        Check::Stop(x) => Step {
+        Err(x) => Step {
             turn: Turn::Bad(x),
             held,
         },
-        Check::Pass => take_turn(held, block, marks, line, bytes, last, offset),
+        Ok(()) => take_turn(held, block, marks, line, bytes, last, offset),
     }
 }
 
 // The turn on a state that nothing refuses.
 pub fn take_turn(
-    held: Held,
+    held: Option<Plan>,
     block: &mut [u8],
     marks: &mut [u8],
     line: &mut [u8],
@@ -69,12 +68,12 @@ fn size_at(bytes: &[u8]) -> usize
     if bytes.len() == 0 {
         return 0;
     }
-    size_of(bytes[0])
+    size_of(bytes[0]).unwrap_or(0)
 }
 
 // A whole command of this size: refused, or performed.
 fn go(
-    held: Held,
+    held: Option<Plan>,
     block: &mut [u8],
     marks: &mut [u8],
     line: &mut [u8],
@@ -88,17 +87,14 @@ fn go(
     if makes_plan(command) {
         return make(held, block, marks, line, command, size, offset);
     }
-    let planned = held.planned;
-    let plan = held.plan;
-    match refusal(planned, plan, command) {
-        Check::Stop(x) => stop(held, line, x, offset),
-        Check::Pass => {
-            let done = dispatch(held, block, marks, line, command);
-            let after = done.held;
-            let count = done.count;
+    match refusal(held, command) {
+        Err(x) => stop(held, line, x, offset),
+        Ok(()) => {
+            let done = dispatch(held.unwrap(), block, marks, line, command);
+            let plan = done.plan;
             Step {
-                turn: Turn::On(size, count),
-                held: after,
+                turn: Turn::On(size, done.count),
+                held: Some(plan),
             }
         }
     }
@@ -106,7 +102,7 @@ fn go(
 
 // A command that makes a plan: the plan is made once, and then begun or refused.
 fn make(
-    held: Held,
+    held: Option<Plan>,
     block: &mut [u8],
     marks: &mut [u8],
     line: &mut [u8],
@@ -117,14 +113,14 @@ fn make(
     requires { Kept held block.old marks.old × (length line.old ≡ line_length) × (makes_plan command ≡ true) }
     ensures { (b : List ℕ) (last : Bool) → parsed b ≡ parsedAs.Whole command → size ≡ size_of (get_or b 0 0) → Turns held block.old marks.old line.old b last offset result.turn result.held block.new marks.new line.new }
 {
-    let made = made(command);
-    let answer = made.answer;
-    let plan = made.plan;
-    match answer {
-        Check::Stop(x) => stop(held, line, x, offset),
-        Check::Pass => Step {
-            turn: Turn::On(size, 0),
-            held: begin(plan, block, marks),
-        },
+    match made(command) {
+        Err(x) => stop(held, line, x, offset),
+        Ok(plan) => {
+            begin(plan, block, marks);
+            Step {
+                turn: Turn::On(size, 0),
+                held: Some(plan),
+            }
+        }
     }
 }

@@ -1,6 +1,6 @@
 -- The numbers of the C entries say what Meanings.antt states.
 -- Main results: recover_means, encode_means, message_means, fetch_means; never_eleven.
-use Rattle.std.specs.Prelude.{◌≡◌, refl, ◌↔◌, ◌≢◌, ◌⊎◌, List, [], ◌∷◌}
+use Rattle.std.specs.Prelude.{◌≡◌, refl, ◌↔◌, ◌≢◌, ◌⊎◌, List, [], ◌∷◌, Ok, Err}
 use Rattle.std.proofs.Common.{sym, ◌∙◌, ap, inl, inr, ⊎_elim, arith}
 use Rattle.std.proofs.Math.Logic.{by_cases}
 use mathlib.Core.List.Memᴰ.{head}
@@ -10,17 +10,14 @@ use Rattle.std.proofs.Math.Decide.{dec_lt}
 use Rattle.math.specs.Members.{◌∈◌}
 use Rattle.plan.specs.Layout.{layout}
 use Rattle.plan.specs.Plans.{layout_of}
-use Rattle.plan.proofs.PlanLaws.{count_not_eleven}
 use Rattle.plan.specs.declared.Plan.{Plan}
-use Rattle.refusals.specs.Refusals.{number_of, check_number}
+use Rattle.refusals.specs.Refusals.{number_of, check_number, count_value, Check}
 use Rattle.refusals.proofs.RefusalLaws.{number_some, number_once, not_eleven, check_not_eleven, check_number_zero, check_number_stop, stop_or_pass}
 use Rattle.calls.specs.Calls.{check_of}
 use Rattle.calls.proofs.CallsLaws.{few_marks, few_none, also_few}
 use Rattle.refusals.specs.declared.Refusal.{Refusal}
-use Rattle.refusals.specs.declared.Check.{Check}
-use Rattle.refusals.specs.declared.Check.TheVariants.{Pass, Stop}
-use Rattle.answers.specs.Answers.{recovery_number, recovery_count, reading_number, fetching_count}
-use Rattle.answers.proofs.AnswerLaws.{recovery_not_eleven, encoding_not_eleven, reading_not_eleven, fetching_not_eleven}
+use Rattle.answers.specs.Answers.{recovery_number, recovery_count, reading_number}
+use Rattle.answers.proofs.AnswerLaws.{recovery_not_eleven, reading_not_eleven}
 use Rattle.promises.specs.Promises.{Recovers, recover_lent, Reads, message_lent, fetch_check}
 use Rattle.answers.specs.declared.Recovery.{Recovery}
 use Rattle.answers.specs.declared.Recovery.TheVariants as recovery
@@ -34,21 +31,21 @@ use Rattle.numbers.specs.Meanings.{RecoverMeans, EncodeMeans, MessageMeans, Fetc
 
 -- where the call stops it is the refusal's, 1 to 4; where the call passes it is 0 or past 4
 record Told (k : Check) (number : ℕ) : Type 0 where
-  stopped : (x : Refusal) → k ≡ Stop x → (number ≡ number_of x) × (number_of x < 5)
-  passed : k ≡ Pass → (number ≡ 0) ⊎ (4 < number)
+  stopped : (x : Refusal) → k ≡ Err x → (number ≡ number_of x) × (number_of x < 5)
+  passed : k ≡ Ok tt → (number ≡ 0) ⊎ (4 < number)
 
 -- so the number says which
 module _ {k : Check} {number : ℕ} (told : Told k number) where
-  stops_when : (x : Refusal) → number_of x < 5 → (number ≡ number_of x) ↔ (k ≡ Stop x)
+  stops_when : (x : Refusal) → number_of x < 5 → (number ≡ number_of x) ↔ (k ≡ Err x)
   stops_when x h = (
     λ e. ⊎_elim
         (λ q. absurd (⊎_elim (λ z. omega (arith, number_some x, z, e)) (λ z. omega (arith, h, z, e)) (told.passed q)))
-        (λ s. s.1 ∙ ap Stop (number_once s.0 x (sym (told.stopped s.0 s.1).0 ∙ e)))
+        (λ s. s.1 ∙ ap Err (number_once s.0 x (sym (told.stopped s.0 s.1).0 ∙ e)))
         (stop_or_pass k),
     λ e. (told.stopped x e).0,
   )
 
-  passes_when : (number ≡ 0) ⊎ (4 < number) → k ≡ Pass
+  passes_when : (number ≡ 0) ⊎ (4 < number) → k ≡ Ok tt
   passes_when h =
       ⊎_elim (λ q. q)
       (λ s.
@@ -57,10 +54,10 @@ module _ {k : Check} {number : ℕ} (told : Told k number) where
       (stop_or_pass k)
 
   -- what 0, or a number past 4, says of a call that passes it says of every call
-  case_when : {A : Type 0} {n : ℕ} → (n ≡ 0) ⊎ (4 < n) → (k ≡ Pass → (number ≡ n) ↔ A) → (number ≡ n) ↔ ((k ≡ Pass) × A)
+  case_when : {A : Type 0} {n : ℕ} → (n ≡ 0) ⊎ (4 < n) → (k ≡ Ok tt → (number ≡ n) ↔ A) → (number ≡ n) ↔ ((k ≡ Ok tt) × A)
   case_when {n = n} h f = (λ e. let q = passes_when (rw e h) in (q, (f q).0 e), λ s. (f s.0).1 s.1)
 
-  told_in : {l : List ℕ} → ((x : Refusal) → k ≡ Stop x → number_of x ∈ l) → (k ≡ Pass → number ∈ l) → number ∈ l
+  told_in : {l : List ℕ} → ((x : Refusal) → k ≡ Err x → number_of x ∈ l) → (k ≡ Ok tt → number ∈ l) → number ∈ l
   told_in f g = ⊎_elim g (λ s. rw (told.stopped s.0 s.1).0 (f s.0 s.1)) (stop_or_pass k)
 
 in_four : {rest : List ℕ} (k : ℕ) → k < 4 → k ∈ (0 ∷ 1 ∷ 2 ∷ 3 ∷ rest)
@@ -124,13 +121,13 @@ recover_means h = rw (h.number_is, h.count_is) (recovered_means h.keeps)
 
 -- the number is that of what was checked, and says which
 module _ {k : Check} {number : ℕ} (e : number ≡ check_number k) where
-  checked_stops : (x : Refusal) → (number ≡ number_of x) ↔ (k ≡ Stop x)
+  checked_stops : (x : Refusal) → (number ≡ number_of x) ↔ (k ≡ Err x)
   checked_stops x = (λ q. check_number_stop k x (sym e ∙ q), λ q. e ∙ ap check_number q)
 
-  checked_passes : (number ≡ 0) ↔ (k ≡ Pass)
+  checked_passes : (number ≡ 0) ↔ (k ≡ Ok tt)
   checked_passes = (λ q. check_number_zero k (sym e ∙ q), λ q. e ∙ ap check_number q)
 
-  checked_in : {l : List ℕ} → 0 ∈ l → ((x : Refusal) → k ≡ Stop x → number_of x ∈ l) → number ∈ l
+  checked_in : {l : List ℕ} → 0 ∈ l → ((x : Refusal) → k ≡ Err x → number_of x ∈ l) → number ∈ l
   checked_in z f = ⊎_elim (λ q. rw (checked_passes.1 q) z) (λ s. rw ((checked_stops s.0).1 s.1) (f s.0 s.1)) (stop_or_pass k)
 
 pub encode_means : {p : Plan} {d v : List ℕ} {number : ℕ} {v' : List ℕ} → EncodeOut p d v number v' → EncodeMeans p d v number v'
@@ -145,7 +142,7 @@ encode_means {p} {d} {v} h =
       else_keeps = λ o. ⊎_elim (λ q. absurd (o ((checked_passes checked).1 q))) (λ s. (f.refused s.0 s.1).1) (stop_or_pass (check_of p (message_lent d v) []));
     }
 
-fetch_few : (p : Plan) (m l : List ℕ) {x : Refusal} → fetch_check p m l ≡ Stop x → number_of x < 5
+fetch_few : (p : Plan) (m l : List ℕ) {x : Refusal} → fetch_check p m l ≡ Err x → number_of x < 5
 unfolding fetch_check
 fetch_few p m l e = also_few p _ m _ e
 
@@ -156,7 +153,7 @@ fetch_means {p} {m} {l} h =
     record {
       numbers = checked_in checked (head refl) (λ x e. in_five (number_of x) (fetch_few p m l e));
       refused_when = λ x _. checked_stops checked x;
-      refused_leaves = λ x _ e. let s = f.refused x ((checked_stops checked x).0 e) in (h.count_is ∙ ap fetching_count s.0, s.1);
+      refused_leaves = λ x _ e. let s = f.refused x ((checked_stops checked x).0 e) in (h.count_is ∙ ap count_value s.0, s.1);
       zero_when = checked_passes checked;
       zero_leaves = λ e. rw h.count_is (f.listed ((checked_passes checked).0 e));
     }
@@ -170,7 +167,7 @@ reading_ends (reading.Refused x) o = absurd (o x refl)
 
 module _ {p : Plan} {v d : List ℕ} {r : Reading} {d' : List ℕ} (f : Reads p v d r d') where
   -- a call that passes is answered 0 or 5
-  read_cases : {A : Type 0} → check_of p (message_lent d v) [] ≡ Pass → (r ≡ reading.Read → A) → (r ≡ reading.Crossed → A) → A
+  read_cases : {A : Type 0} → check_of p (message_lent d v) [] ≡ Ok tt → (r ≡ reading.Read → A) → (r ≡ reading.Crossed → A) → A
   read_cases q a b = ⊎_elim a b (reading_ends r (f.not_refused q))
 
   read_told : Told (check_of p (message_lent d v) []) (reading_number r)
@@ -205,9 +202,7 @@ never_eleven = record {
   refusal = not_eleven;
   check = check_not_eleven;
   recovery = recovery_not_eleven;
-  encoding = encoding_not_eleven;
   reading = reading_not_eleven;
-  fetching = fetching_not_eleven;
-  count = count_not_eleven;
+  count = check_not_eleven;
   figures = figures_not_eleven;
 }

@@ -3,12 +3,13 @@
 #![tactic(auto)]
 
 ghost use Rattle.std.specs.Prelude.{◌≡◌};
-ghost use Rattle.plan.specs.Plans.{count_number, count_value, message_count_of};
+ghost use Rattle.refusals.specs.Refusals.{check_number, count_value};
+ghost use Rattle.plan.specs.Plans.{message_count_of};
 ghost use Rattle.calls.specs.Calls.{counted_of};
 ghost use Rattle.numbers.specs.Entries.{numbered, FiguresOut};
 
-use figures::Answer;
 use plan::Plan;
+use refusals::{Refusal, number};
 
 // A constructor's answer by its number, with the plan beside it; a refusal makes none, and the record is all zeros.
 #[repr(C)]
@@ -18,24 +19,22 @@ pub struct Made {
     pub plan: Plan,
 }
 
-pub fn number_made(made: plan::Made) -> Made
+pub fn number_made(made: Result<Plan, Refusal>) -> Made
     ensures { result ≡ numbered made }
 {
-    let answer = made.answer;
-    let plan = made.plan;
     Made {
-        answer: answer.number(),
-        plan,
+        answer: number(&made),
+        plan: made.unwrap_or(Plan::none()),
     }
 }
 
 pub fn number_message_count(plan: Plan, count: &mut usize) -> u8
-    ensures value { result ≡ count_number (message_count_of plan) }
+    ensures value { result ≡ check_number (message_count_of plan) }
     ensures count_after { count.new ≡ count_value (message_count_of plan) }
 {
-    let answer = plan.message_count();
-    *count = answer.value();
-    answer.number()
+    let messages = plan.message_count();
+    *count = messages.unwrap_or(0);
+    number(&messages)
 }
 
 pub fn number_figures(
@@ -48,14 +47,14 @@ pub fn number_figures(
     ensures { FiguresOut plan result parity.new pair.new neighbour.new distance.new }
 {
     match figures::figures(plan) {
-        Answer::Are(f) => {
+        Ok(f) => {
             *parity = f.parity;
             *pair = f.pair;
             *neighbour = f.neighbour;
             *distance = f.distance;
             0
         }
-        Answer::Not(x) => {
+        Err(x) => {
             *parity = 0;
             *pair = 0;
             *neighbour = 0;
@@ -66,10 +65,10 @@ pub fn number_figures(
 }
 
 pub fn number_erasure_count(plan: Plan, marks: &[u8], count: &mut usize) -> u8
-    ensures value { result ≡ count_number (counted_of plan marks.now) }
+    ensures value { result ≡ check_number (counted_of plan marks.now) }
     ensures count_after { count.new ≡ count_value (counted_of plan marks.now) }
 {
-    let answer = calls::erasure_count(plan, marks);
-    *count = answer.value();
-    answer.number()
+    let erasures = calls::erasure_count(plan, marks);
+    *count = erasures.unwrap_or(0);
+    number(&erasures)
 }

@@ -1,24 +1,22 @@
 -- Commands performed one after another: put together, and that they are the next ones of the job.
 -- Main results: performed_one, performed_both, performed_inside, performed_more, performed_begins, performed_further.
-use Rattle.std.specs.Prelude.{◌≡◌, refl, List, [], ◌++◌, ℕ, ◌+◌, ◌≤◌, length, get_or, drop}
+use Rattle.std.specs.Prelude.{◌≡◌, refl, List, [], ◌++◌, ℕ, ◌+◌, ◌≤◌, length, get_or, drop, Ok}
 use Rattle.std.proofs.Common.{sym, ◌∙◌, ap, subst, append_assoc, append-nil, add_assoc, arith, length-drop, drop-drop}
 use Rattle.std.proofs.Math.ListN.{get_or-append}
 use Rattle.std.proofs.lemmas.List.{drop-append-le}
-use Rattle.refusals.specs.declared.Check.TheVariants.{Pass}
 use Rattle.commands.specs.Commands.{size_of, parsed}
 use Rattle.commands.specs.declared.Command.{Command}
 use Rattle.commands.specs.declared.Parsed.TheVariants.{Whole}
 use Rattle.state.specs.Refusing.{refusal_of}
-use Rattle.act.specs.Acts.{state_of, Kept, Acts}
+use Rattle.act.specs.Acts.{state_of, Kept, Acts, Held}
 use Rattle.act.proofs.ActsOnce.{acts_once}
-use Rattle.act.specs.declared.Held.{Held}
 use Rattle.one_sheet.specs.ParsedLaws.{zero_one, whole_size, whole_command, parsed_prefix}
 use Rattle.one_sheet.specs.Begins.{Begins, one_more}
 use Rattle.one_sheet.specs.Performed.{Performed, none, first}
 
 -- one command, of this size
 pub performed_one : {b : List ℕ} {h : Held} {v m : List ℕ} {at : ℕ} {h' : Held} {v' m' : List ℕ} {text : List ℕ} (c : Command) (size : ℕ) →
-    parsed (drop at b) ≡ Whole c → refusal_of (state_of h v m) c ≡ Pass → Acts c h v m text h' v' m' → size ≡ size_of (get_or (drop at b) 0 0) →
+    parsed (drop at b) ≡ Whole c → refusal_of (state_of h v m) c ≡ Ok tt → Acts c h v m text h' v' m' → size ≡ size_of (get_or (drop at b) 0 0) →
     Performed b h v m at text h' v' m' (at + size)
 performed_one {b} {h} {v} {m} {at} {h'} {v'} {m'} {text} c size e z a s =
     subst (λ k. Performed b h v m at text h' v' m' (at + k)) (sym s)

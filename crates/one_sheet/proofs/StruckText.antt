@@ -7,9 +7,8 @@ use Rattle.std.proofs.lemmas.Bool.{eqb-false, not-true}
 use Rattle.math.specs.Tests.{and_left, and_right}
 use Rattle.pieces.specs.Pieces.{decimal, fields}
 use Rattle.pieces.specs.ReadBack.{Letterless, nothing, more, letterless_fields, front, front_decimal}
-use Rattle.refusals.specs.Refusals.{check_number}
+use Rattle.refusals.specs.Refusals.{check_number, Check}
 use Rattle.refusals.proofs.RefusalLaws.{check_not_eleven, check_number_byte}
-use Rattle.refusals.specs.declared.Check.{Check}
 use Rattle.lines.specs.Lines.{line, refused_word}
 use Rattle.turns.specs.Sheets.{refused_line}
 

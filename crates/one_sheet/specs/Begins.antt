@@ -1,12 +1,11 @@
 -- First lines of a job: every sheet of the rest completes them, and every sheet of the job begins with them.
 -- Main definition: Begins. Main results: begins_more, begins_stands, begins_sheet, begins_longer; held_start; left_less.
-use Rattle.std.specs.Prelude.{◌≡◌, refl, cond, List, [], ◌++◌, ℕ, suc, ◌+◌, ◌-◌, ◌≤◌, ◌<◌, eqb, get_or, drop}
+use Rattle.std.specs.Prelude.{◌≡◌, refl, cond, List, [], ◌++◌, ℕ, suc, ◌+◌, ◌-◌, ◌≤◌, ◌<◌, eqb, get_or, drop, Ok}
 use Rattle.std.proofs.Common.{sym, ◌∙◌, ap, subst, append_assoc, arith, length-drop, eq-eqb, ne_eqb, drop-drop}
 use Rattle.std.proofs.Math.Logic.{by_cases}
 use Rattle.std.proofs.Math.Decide.{ℕ_discrete}
 use Rattle.std.proofs.Math.ListN.{get_or-append}
 use Rattle.std.proofs.lemmas.List.{drop-append-le}
-use Rattle.refusals.specs.declared.Check.TheVariants.{Pass}
 use Rattle.plan.specs.Layout.{layout}
 use Rattle.plan.specs.Plans.{no_plan, plan, layout_of}
 use Rattle.code.specs.Marks.{mark_bytes}
@@ -28,7 +27,7 @@ use Rattle.one_sheet.specs.OneSheet.{start_stands, sheet_goes}
 pub data Begins (job : List ℕ) : ℕ → State → List ℕ → Type 0 where
   nothing_yet : Begins job 0 start []
   one_more : {o : ℕ} {s : State} {text : List ℕ} → Begins job o s text → (c : Command) (s' : State) (said : List ℕ) → parsed (drop o job) ≡ Whole c →
-      refusal_of s c ≡ Pass → Means c s s' said → Begins job (o + size_of (get_or (drop o job) 0 0)) s' (text ++ said)
+      refusal_of s c ≡ Ok tt → Means c s s' said → Begins job (o + size_of (get_or (drop o job) 0 0)) s' (text ++ said)
 
 -- every sheet of the rest completes first lines to a sheet of the job
 pub begins_more : {job : List ℕ} {o : ℕ} {s : State} {text : List ℕ} → Begins job o s text → (rest : List ℕ) → Sheet o s (drop o job) rest → Sheet 0 start job (text ++ rest)

@@ -1,8 +1,7 @@
 -- A job has one sheet: its bytes settle every line.
 -- Main results: one_sheet, sheet_once; by what stands at the front of the bytes: sheet_ends, sheet_unknown, sheet_short, sheet_refused, sheet_goes.
-use Rattle.std.specs.Prelude.{◌≡◌, refl, ◌≢◌, List, [], ◌++◌, ℕ, ◌+◌, drop, get_or}
+use Rattle.std.specs.Prelude.{◌≡◌, refl, ◌≢◌, List, [], ◌++◌, ℕ, ◌+◌, drop, get_or, Ok}
 use Rattle.std.proofs.Common.{sym, ◌∙◌, ap₂, subst, true≢false}
-use Rattle.refusals.specs.declared.Check.TheVariants.{Pass}
 use Rattle.commands.specs.Commands.{size_of, parsed, parsed_check}
 use Rattle.commands.specs.declared.Command.{Command}
 use Rattle.commands.specs.declared.Parsed.{Parsed}
@@ -30,7 +29,7 @@ abbrev By : ℕ → State → List ℕ → List ℕ → Parsed → Type 0
 By o s b y Nothing = y ≡ line end_word []
 By o s b y Unknown = y ≡ refused_line (parsed_check Unknown) o
 By o s b y Short = y ≡ refused_line (parsed_check Short) o
-By o s b y (Whole c) = (refusal_of s c ≢ Pass → y ≡ refused_line (refusal_of s c) o) × (refusal_of s c ≡ Pass → Goes o s b c y)
+By o s b y (Whole c) = (refusal_of s c ≢ (Ok tt) → y ≡ refused_line (refusal_of s c) o) × (refusal_of s c ≡ Ok tt → Goes o s b c y)
 
 sheet_by : {o : ℕ} {s : State} {b y : List ℕ} → Sheet o s b y → By o s b y (parsed b)
 unfolding parsed
@@ -51,10 +50,10 @@ module _ {o : ℕ} {s : State} {b y : List ℕ} where
   pub sheet_short : Sheet o s b y → parsed b ≡ Short → y ≡ refused_line (parsed_check Short) o
   sheet_short t e = subst (By o s b y) e (sheet_by t)
 
-  pub sheet_refused : (c : Command) → Sheet o s b y → parsed b ≡ Whole c → refusal_of s c ≢ Pass → y ≡ refused_line (refusal_of s c) o
+  pub sheet_refused : (c : Command) → Sheet o s b y → parsed b ≡ Whole c → refusal_of s c ≢ (Ok tt) → y ≡ refused_line (refusal_of s c) o
   sheet_refused c t e = (subst (By o s b y) e (sheet_by t)).0
 
-  pub sheet_goes : (c : Command) → Sheet o s b y → parsed b ≡ Whole c → refusal_of s c ≡ Pass → Goes o s b c y
+  pub sheet_goes : (c : Command) → Sheet o s b y → parsed b ≡ Whole c → refusal_of s c ≡ Ok tt → Goes o s b c y
   sheet_goes c t e = (subst (By o s b y) e (sheet_by t)).1
 
 -- ---- one sheet

@@ -1,12 +1,11 @@
 -- A job read in parts of any size, and what a turn on a part of the bytes says of the whole.
 -- Main definitions: joined, Fed, Prefix. Main results: prefix_turns, fed_sheet, sheet_fed, waits_exactly.
-use Rattle.std.specs.Prelude.{◌≡◌, refl, ◌⊎◌, ◌≢◌, ◌↔◌, Bool, true, false, List, [], ◌∷◌, ◌++◌, ℕ, zero, suc, ◌+◌, ◌-◌, ◌<◌, length, get_or, drop, replicate}
+use Rattle.std.specs.Prelude.{◌≡◌, refl, ◌⊎◌, ◌≢◌, ◌↔◌, Bool, true, false, List, [], ◌∷◌, ◌++◌, ℕ, zero, suc, ◌+◌, ◌-◌, ◌<◌, length, get_or, drop, replicate, Ok}
 use Rattle.std.proofs.Common.{sym, ◌∙◌, ap, subst, inl, inr, ⊎_elim, append_assoc, append-nil, arith, length-append, length-drop}
 use Rattle.std.proofs.Math.Logic.{by_cases}
 use Rattle.std.proofs.lemmas.List.{length-replicate, drop-append-le}
 use Rattle.std.proofs.Math.ListN.{get_or-append}
 use Rattle.refusals.proofs.RefusalLaws.{dec_pass}
-use Rattle.refusals.specs.declared.Check.TheVariants.{Pass}
 use Rattle.commands.specs.Commands.{size_of, parsed, parsed_check}
 use Rattle.commands.specs.CommandLaws as commands
 use Rattle.commands.specs.declared.Command.{Command}
@@ -16,8 +15,7 @@ use Rattle.lines.specs.Lines.{line, end_word}
 use Rattle.state.specs.State.{State}
 use Rattle.state.specs.Refusing.{refusal_of}
 use Rattle.act.specs.Meaning.{Means}
-use Rattle.act.specs.Acts.{state_of}
-use Rattle.act.specs.declared.Held.{Held}
+use Rattle.act.specs.Acts.{state_of, Held}
 use Rattle.turns.specs.Sheets as sheets
 use Rattle.turns.specs.Sheets.{Sheet, refused_line}
 use Rattle.one_sheet.specs.OneSheet.{Goes, sheet_ends, sheet_unknown, sheet_short, sheet_refused, sheet_goes}
@@ -65,9 +63,9 @@ pub data Fed : ℕ → State → List ℕ → List (List ℕ) → List ℕ → T
   ends : {o : ℕ} {s : State} {hand : List ℕ} → parsed hand ≡ Nothing → Fed o s hand [] (line end_word [])
   unknown : {o : ℕ} {s : State} {hand : List ℕ} {parts : List (List ℕ)} → parsed hand ≡ Unknown → Fed o s hand parts (refused_line (parsed_check Unknown) o)
   short : {o : ℕ} {s : State} {hand : List ℕ} → parsed hand ≡ Short → Fed o s hand [] (refused_line (parsed_check Short) o)
-  refused : {o : ℕ} {s : State} {hand : List ℕ} {parts : List (List ℕ)} (c : Command) → parsed hand ≡ Whole c → refusal_of s c ≢ Pass →
+  refused : {o : ℕ} {s : State} {hand : List ℕ} {parts : List (List ℕ)} (c : Command) → parsed hand ≡ Whole c → refusal_of s c ≢ (Ok tt) →
       Fed o s hand parts (refused_line (refusal_of s c) o)
-  goes_on : {o : ℕ} {s : State} {hand : List ℕ} {parts : List (List ℕ)} (s' : State) (text rest : List ℕ) (c : Command) → parsed hand ≡ Whole c → refusal_of s c ≡ Pass →
+  goes_on : {o : ℕ} {s : State} {hand : List ℕ} {parts : List (List ℕ)} (s' : State) (text rest : List ℕ) (c : Command) → parsed hand ≡ Whole c → refusal_of s c ≡ Ok tt →
       Means c s s' text → Fed (o + size_of (get_or hand 0 0)) s' (drop (size_of (get_or hand 0 0)) hand) parts rest → Fed o s hand parts (text ++ rest)
 
 -- however the job is cut, its lines are a sheet of the whole
@@ -112,7 +110,7 @@ feed_short : (n : ℕ) → Feeds n → {o : ℕ} {s : State} {text : List ℕ} (
 feed_short n ih {o} {s} hand [] e less t = subst (Fed o s hand []) (sym (sheet_short (feed_end hand t) e)) (short e)
 feed_short n ih hand (part ∷ parts) e less t = feed_more n ih hand part parts (inr e) less t
 
-feed_goes : (n : ℕ) → Feeds n → {o : ℕ} {s : State} {text : List ℕ} (hand : List ℕ) (parts : List (List ℕ)) (c : Command) → parsed hand ≡ Whole c → refusal_of s c ≡ Pass →
+feed_goes : (n : ℕ) → Feeds n → {o : ℕ} {s : State} {text : List ℕ} (hand : List ℕ) (parts : List (List ℕ)) (c : Command) → parsed hand ≡ Whole c → refusal_of s c ≡ Ok tt →
     length (hand ++ joined parts) + length parts < suc n → Goes o s (hand ++ joined parts) c text → Fed o s hand parts text
 feed_goes n ih {o} {s} hand parts c e z less g =
     let w = whole_size hand c e in

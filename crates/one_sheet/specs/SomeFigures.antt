@@ -1,11 +1,10 @@
 -- Every good plan has its four figures, with no axiom: the pairs are finite, so each figure can be searched for.
 -- Main results: find, least_of, figures_some.
-use Rattle.std.specs.Prelude.{◌≡◌, refl, ◌⊎◌, [], ◌∷◌, ℕ, zero, suc, ◌+◌, ◌-◌, ◌%◌, ◌≤◌, ◌<◌, length}
+use Rattle.std.specs.Prelude.{◌≡◌, refl, ◌⊎◌, [], ◌∷◌, ℕ, zero, suc, ◌+◌, ◌-◌, ◌%◌, ◌≤◌, ◌<◌, length, Ok}
 use Rattle.std.proofs.Common.{sym, ◌∙◌, subst, inl, inr, ⊎_elim, arith}
 use Rattle.std.proofs.Math.Logic.{by_cases}
 use mathlib.Core.Logic.Dec
 use Rattle.std.proofs.Math.Decide.{ℕ_discrete, dec_lt, dec_le}
-use Rattle.refusals.specs.declared.Check.TheVariants.{Pass}
 use Rattle.math.specs.Members.{up_to, from}
 use Rattle.math.specs.MembersLaws.{∈_up_to, length_up_to, dec_in}
 use Rattle.plan.specs.Layout.{Layout, Valid, layout}
@@ -131,7 +130,7 @@ unfolding up_to from
 two_sections n e = rw e
 
 -- the figures of a good plan
-pub figures_some : (p : Plan) → plan_check p ≡ Pass → (a : ℕ) × (b : ℕ) × (c : ℕ) × (d : ℕ) × Figures (layout_of p) a b c d
+pub figures_some : (p : Plan) → plan_check p ≡ Ok tt → (a : ℕ) × (b : ℕ) × (c : ℕ) × (d : ℕ) × Figures (layout_of p) a b c d
 unfolding layout_of layout
 figures_some p g =
     let L = layout_of p in

@@ -1,17 +1,16 @@
 -- Every job has a sheet: each command that is not refused has a meaning on every state that a job can be in.
 -- Main definitions: Sound, Ready. Main results: means_some, some_sheet, sheet_single.
-use Rattle.std.specs.Prelude.{◌≡◌, Bool, true, false, cond, List, [], ◌∷◌, ◌++◌, map, ℕ, zero, suc, ◌+◌, ◌*◌, ◌≤◌, ◌<◌, eqb, length, get_or, set, drop, replicate}
+use Rattle.plan.specs.Plans.{plan_in, with_shift, layout_of, plan_check}
+use Rattle.plan.proofs.PlanLaws.{answer_good, good_valid}
+use Rattle.refusals.specs.declared.Refusal.{Refusal}
+use Rattle.std.specs.Prelude.{◌≡◌, Bool, true, false, cond, List, [], ◌∷◌, ◌++◌, map, ℕ, zero, suc, ◌+◌, ◌*◌, ◌≤◌, ◌<◌, eqb, length, get_or, set, drop, replicate, Ok, Result}
 use Rattle.std.proofs.Math.Path.{refl}
 use Rattle.std.proofs.Common.{sym, ◌∙◌, subst, arith, length-set, length-drop, get_or-drop}
 use Rattle.std.proofs.Math.Logic.{by_cases}
 use Rattle.std.proofs.lemmas.List.{length-map, length-replicate}
 use Rattle.refusals.proofs.RefusalLaws.{dec_pass}
-use Rattle.refusals.specs.declared.Check.TheVariants.{Pass}
 use Rattle.plan.specs.Layout.{layout}
-use Rattle.plan.specs.Plans.{with_shift, layout_of, plan_check}
-use Rattle.plan.proofs.PlanLaws.{good_valid}
 use Rattle.plan.specs.declared.Plan.{Plan}
-use Rattle.plan.specs.declared.Made.{Made}
 use Rattle.code.specs.Codewords.{at, Single}
 use Rattle.code.specs.Marks.{mark_bytes, erasures}
 use Rattle.code.proofs.Laws.Carrying.{carried_some}
@@ -47,7 +46,7 @@ use Rattle.one_sheet.specs.SomeRecovery.{decides_some, marked_some, cleared_some
 
 -- a good plan with a block and marks of its lengths, all bytes
 pub record Sound (s : State) : Type 0 where
-  pub good : plan_check s.plan ≡ Pass
+  pub good : plan_check s.plan ≡ Ok tt
   pub block_long : length s.block ≡ s.plan.n * s.plan.t
   pub symbols : Bytes s.block
   pub marks_long : length s.marks ≡ mark_bytes (layout_of s.plan)
@@ -72,7 +71,7 @@ zeros zero i = omega arith
 zeros (suc k) zero = omega arith
 zeros (suc k) (suc i) = zeros k i
 
-fresh_ready : (p : Plan) → plan_check p ≡ Pass → Ready (fresh p)
+fresh_ready : (p : Plan) → plan_check p ≡ Ok tt → Ready (fresh p)
 unfolding fresh
 fresh_ready p g = record {
   sound = λ _. record {
@@ -92,8 +91,8 @@ cleared_ready : {s : State} (v : List ℕ) → Sound s → length v ≡ s.plan.n
 cleared_ready {s} v k a b = block_ready v _ k a b (length-replicate (mark_bytes (layout_of s.plan)) 0) (zeros (mark_bytes (layout_of s.plan)))
 
 -- a plan that is made
-new_some : {s : State} {c : Command} {x : Made} → Makes c x → refusal_of s c ≡ Pass → Some c s
-new_some {s} {c} {x} k e = record { state = fresh x.plan; text = []; means = k.means s _ refl; ready = fresh_ready x.plan (k.good (sym (k.refusal s) ∙ e)) }
+new_some : {s : State} {c : Command} {x : Result Plan Refusal} → Makes c x → refusal_of s c ≡ Ok tt → Some c s
+new_some {s} {c} {x} k e = record { state = fresh (plan_in x); text = []; means = k.means s _ refl; ready = fresh_ready (plan_in x) (answer_good x k.good (sym (k.refusal s) ∙ e)) }
 
 -- the bits of the plan's places fit its mark bytes
 bits_fit : {s : State} → Sound s → s.plan.n * s.plan.t ≤ 8 * length s.marks
@@ -184,7 +183,7 @@ symbol_of (Ruler n) = 0
 symbol_of Fetch = 0
 
 -- a command that is not refused has a meaning
-pub means_some : {s : State} → Ready s → (c : Command) → symbol_of c < 256 → refusal_of s c ≡ Pass → Some c s
+pub means_some : {s : State} → Ready s → (c : Command) → symbol_of c < 256 → refusal_of s c ≡ Ok tt → Some c s
 unfolding Means with_plan with_shift
 means_some {s} k (NewPlan n t) b e = new_some (blank_makes n t) e
 means_some {s} k (SetShift j p) b e =

@@ -12,7 +12,7 @@ use Rattle.tables.specs.Picture.{counts, Picture, Pictured, Settles, Stuck}
 use Rattle.tables.proofs.Bounds.{tally_counts}
 use Rattle.tables.specs.Singles.{Lowers}
 use Rattle.queue.specs.Queue.{Below, Queued, Waits, Enters, room, full, entered, passed, taken, emptied}
-use Rattle.settling.specs.Settling.{settles_none, settles_more}
+use Rattle.settling.specs.Settling.{settles_more}
 use Rattle.settling.specs.Takes.{One, Takes}
 
 -- from erasures E and block u on, k places are settled
@@ -163,13 +163,6 @@ peelable_ready d q l k = record {
   value_long = d.value_long;
 }
 
-pub peeling_start : {n t : ℕ} {shifts sum tally queue place value : List ℕ} {tail : ℕ} → Ready n t shifts sum tally queue place value 0 tail 0
-    → Peeling n t shifts sum tally sum tally queue place value 0 tail 0
-peeling_start {n} {t} {shifts} {place = place} {value = value} d = record {
-  ready = d;
-  reached = λ E u p. record { F = E; x = u; picture = p; settles = settles_none (layout n t shifts) E u place value };
-}
-
 -- turns make the lists neither longer nor shorter
 pub ready_long : {n t : ℕ} {shifts sum₀ tally₀ queue₀ place₀ value₀ sum tally queue place value : List ℕ} {head₀ tail₀ count₀ head tail count : ℕ}
     → Ready n t shifts sum₀ tally₀ queue₀ place₀ value₀ head₀ tail₀ count₀ → Ready n t shifts sum tally queue place value head tail count
@@ -189,13 +182,6 @@ pub peeling_less : {n t : ℕ} {shifts sum₀ tally₀ sum tally queue place val
     → Peeling n t shifts sum₀ tally₀ sum tally queue place value head tail count → head < tail
     → (head < 2 * max_t) × (2 * t - (head + 1) < 2 * t - head)
 peeling_less p h = (omega (arith, full (λ r l. l) p.ready.queued, p.ready.good.t_max), omega (arith, full (λ r l. l) p.ready.queued))
-
-pub peeling_step : {n t : ℕ} {shifts sum₀ tally₀ sum tally queue place value : List ℕ} {head tail count : ℕ}
-    {sum' tally' queue' place' value' : List ℕ} {tail' count' : ℕ}
-    → Peeling n t shifts sum₀ tally₀ sum tally queue place value head tail count
-    → Steps n t shifts sum tally queue place value head count sum' tally' queue' place' value' tail' count'
-    → Peeling n t shifts sum₀ tally₀ sum' tally' queue' place' value' (head + 1) tail' count'
-peeling_step p s = record { ready = s.ready; reached = λ E u q. s.reached E u (p.reached E u q) }
 
 pub peeling_end : {n t : ℕ} {shifts sum₀ tally₀ sum tally queue place value : List ℕ} {head tail count : ℕ}
     → Peeling n t shifts sum₀ tally₀ sum tally queue place value head tail count → tail ≤ head

@@ -7,7 +7,7 @@ ghost use Rattle.plan.specs.Layout.{layout};
 ghost use Rattle.starts.specs.Starts.{Startable};
 ghost use Rattle.peel.specs.Peels.{Ready, Steps, Peelable, Peels};
 
-use queue::{enter, enter_stored, seed};
+use queue::{Branching, Enter, Storing, seed};
 use settling::settle::settle;
 use starts::seed_marked;
 use tables::lists::{put_place, row_at};
@@ -21,7 +21,7 @@ struct Ends {
 }
 
 // One turn: the row at the head of the queue, if it still has exactly one left, by its tally over the unit.
-fn step_chain(
+fn step<E: Enter>(
     n: usize,
     t: usize,
     shifts: &[u16],
@@ -37,18 +37,15 @@ fn step_chain(
     requires head_lt_tail { head < ends.tail }
     ensures { Steps n t shifts.now sum.old tally.old queue.old place.old value.old head ends.count sum.new tally.new queue.new place.new value.new result.tail result.count }
 {
-    let tail = ends.tail;
-    let count = ends.count;
-    let row = row_at(&queue[..], head);
+    let Ends { tail, count } = ends;
+    let row = row_at(queue, head);
     let r = row.0 as usize;
     if tally[r] / TALLY_UNIT != 1 {
-        return Ends { tail, count };
+        return ends;
     }
-    let s = settle(n, t, shifts, &mut sum[..], &mut tally[..], row);
-    let c = s.place;
-    let other = s.other;
-    let longer = enter(&mut queue[..], tail, other, s.rest);
-    put_place(&mut place[..], count, c);
+    let s = settle(n, t, shifts, sum, tally, row);
+    let longer = E::enter(queue, tail, s.other, s.rest);
+    put_place(place, count, s.place);
     value[count] = s.value;
     Ends {
         tail: longer,
@@ -56,44 +53,8 @@ fn step_chain(
     }
 }
 
-// The same where the next row is stored in any case.
-fn step_stored(
-    n: usize,
-    t: usize,
-    shifts: &[u16],
-    sum: &mut [u8],
-    tally: &mut [u16],
-    queue: &mut [u16],
-    place: &mut [u16],
-    value: &mut [u8],
-    head: usize,
-    ends: Ends,
-) -> Ends
-    requires ready { Ready n t shifts.now sum.old tally.old queue.old place.old value.old head ends.tail ends.count }
-    requires head_lt_tail { head < ends.tail }
-    ensures { Steps n t shifts.now sum.old tally.old queue.old place.old value.old head ends.count sum.new tally.new queue.new place.new value.new result.tail result.count }
-{
-    let tail = ends.tail;
-    let count = ends.count;
-    let row = row_at(&queue[..], head);
-    let r = row.0 as usize;
-    if tally[r] / TALLY_UNIT != 1 {
-        return Ends { tail, count };
-    }
-    let s = settle(n, t, shifts, &mut sum[..], &mut tally[..], row);
-    let c = s.place;
-    let other = s.other;
-    let longer = enter_stored(&mut queue[..], tail, other, s.rest);
-    put_place(&mut place[..], count, c);
-    value[count] = s.value;
-    Ends {
-        tail: longer,
-        count: count + 1,
-    }
-}
-
-// The turns until the queue is empty; gives the number of places settled.
-fn drain_chains(
+// The turns until the queue is empty, in which rows enter by one of the two ways; gives the number of places settled.
+fn drain_by<E: Enter>(
     n: usize,
     t: usize,
     shifts: &[u16],
@@ -107,65 +68,16 @@ fn drain_chains(
     requires { Ready n t shifts.now sum.old tally.old queue.old place.old value.old 0 seeds 0 }
     ensures { Peels (layout n t shifts.now) sum.old tally.old sum.new tally.new place.new value.new result }
 {
-    let mut tail = seeds;
-    let mut count = 0;
+    let mut ends = Ends {
+        tail: seeds,
+        count: 0,
+    };
     let mut head = 0;
-    while head < tail {
-        let ends = step_chain(
-            n,
-            t,
-            shifts,
-            &mut sum[..],
-            &mut tally[..],
-            &mut queue[..],
-            &mut place[..],
-            &mut value[..],
-            head,
-            Ends { tail, count },
-        );
-        tail = ends.tail;
-        count = ends.count;
+    while head < ends.tail {
+        ends = step::<E>(n, t, shifts, sum, tally, queue, place, value, head, ends);
         head += 1;
     }
-    count
-}
-
-// The same where the next row is stored in any case.
-fn drain_stored(
-    n: usize,
-    t: usize,
-    shifts: &[u16],
-    sum: &mut [u8],
-    tally: &mut [u16],
-    queue: &mut [u16],
-    place: &mut [u16],
-    value: &mut [u8],
-    seeds: usize,
-) -> usize
-    requires { Ready n t shifts.now sum.old tally.old queue.old place.old value.old 0 seeds 0 }
-    ensures { Peels (layout n t shifts.now) sum.old tally.old sum.new tally.new place.new value.new result }
-{
-    let mut tail = seeds;
-    let mut count = 0;
-    let mut head = 0;
-    while head < tail {
-        let ends = step_stored(
-            n,
-            t,
-            shifts,
-            &mut sum[..],
-            &mut tally[..],
-            &mut queue[..],
-            &mut place[..],
-            &mut value[..],
-            head,
-            Ends { tail, count },
-        );
-        tail = ends.tail;
-        count = ends.count;
-        head += 1;
-    }
-    count
+    ends.count
 }
 
 // The turns from the rows at the front of the queue on; gives the number of places settled.
@@ -185,29 +97,10 @@ fn drain(
 {
     // Few rows to start from: the erasures lie in chains.
     if seeds < t / 8 {
-        return drain_chains(
-            n,
-            t,
-            shifts,
-            &mut sum[..],
-            &mut tally[..],
-            &mut queue[..],
-            &mut place[..],
-            &mut value[..],
-            seeds,
-        );
+        drain_by::<Branching>(n, t, shifts, sum, tally, queue, place, value, seeds)
+    } else {
+        drain_by::<Storing>(n, t, shifts, sum, tally, queue, place, value, seeds)
     }
-    drain_stored(
-        n,
-        t,
-        shifts,
-        &mut sum[..],
-        &mut tally[..],
-        &mut queue[..],
-        &mut place[..],
-        &mut value[..],
-        seeds,
-    )
 }
 
 // Settles what it can; gives the number of places settled, which stand with their values at the front of the two lists.
@@ -224,18 +117,8 @@ pub fn peel(
     requires { Peelable n t shifts.now sum.old tally.old queue.old place.old value.old }
     ensures { Peels (layout n t shifts.now) sum.old tally.old sum.new tally.new place.new value.new result }
 {
-    let seeds = seed(t, &tally[..], &mut queue[..]);
-    drain(
-        n,
-        t,
-        shifts,
-        &mut sum[..],
-        &mut tally[..],
-        &mut queue[..],
-        &mut place[..],
-        &mut value[..],
-        seeds,
-    )
+    let seeds = seed(t, tally, queue);
+    drain(n, t, shifts, sum, tally, queue, place, value, seeds)
 }
 
 // The same where the table tallies the marked places: the rows to start from are found by the marks where these are few.
@@ -253,24 +136,6 @@ pub fn peel_marked(
     requires { Peelable n t shifts.now sum.old tally.old queue.old place.old value.old × Startable n t shifts.now marks.now tally.old queue.old place.old }
     ensures { Peels (layout n t shifts.now) sum.old tally.old sum.new tally.new place.new value.new result }
 {
-    let seeds = seed_marked(
-        n,
-        t,
-        shifts,
-        marks,
-        &tally[..],
-        &mut queue[..],
-        &mut place[..],
-    );
-    drain(
-        n,
-        t,
-        shifts,
-        &mut sum[..],
-        &mut tally[..],
-        &mut queue[..],
-        &mut place[..],
-        &mut value[..],
-        seeds,
-    )
+    let seeds = seed_marked(n, t, shifts, marks, tally, queue, place);
+    drain(n, t, shifts, sum, tally, queue, place, value, seeds)
 }

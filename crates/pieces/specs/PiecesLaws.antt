@@ -1,7 +1,9 @@
 -- Pieces are put one after the other.
--- Main results: appends_both, appends_byte, appends_digits, appends_next, appends_entry, fields_append, fields_one, fields_length.
+-- Main results: appends_both, appends_byte, appends_digits, appends_part, appends_entry, fields_append, fields_one, fields_length.
 use Rattle.std.specs.Prelude.{◌≡◌, refl, List, [], ◌∷◌, ◌++◌, ℕ, suc, ◌+◌, ◌*◌, ◌≤◌, ◌<◌, length, get_or, take, drop, set}
-use Rattle.std.proofs.Common.{sym, ◌∙◌, ap, subst, append-nil, append_assoc, add-zero, add_assoc, add-one, arith, length-append, length-set, length-take, take-suc, take-suc-set, drop-set-lt, drop-drop}
+use Rattle.std.proofs.Common.{sym, ◌∙◌, ap, subst, append-nil, append_assoc, add-zero, add_assoc, add-one, arith, length-append, length-set, length-take, length-drop, take-suc, take-suc-set, drop-set-lt, drop-drop}
+use Rattle.std.proofs.lemmas.Slice.{take-put_mid, drop-put_mid}
+use borrow.Rule.Slice.PartMut.{put_mid}
 use Rattle.io.specs.Digits.{last_digits}
 use Rattle.pieces.specs.Pieces.{width_from, decimal, fields, Appends}
 use Rattle.pieces.specs.DecimalLaws.{length_decimal_5, length_decimal_is, decimal_is}
@@ -66,16 +68,19 @@ fields_take list i h =
     ∙ fields_append (take i list) (get_or list i 0 ∷ [])
     ∙ ap (λ x. fields (take i list) ++ x) (fields_one (get_or list i 0))
 
--- ---- the loops: one more byte of a word, one more entry of a list
+-- ---- a whole word, one more entry of a list
 
-pub appends_next : (l l' word : List ℕ) (at i : ℕ) → i < length word → at + i < length l → Appends l at (take i word) l' (at + i) →
-    Appends l at (take (i + 1) word) (set l' (at + i) (get_or word i 0)) (at + (i + 1))
-appends_next l l' word at i h g a =
-    let e : take i word ++ (get_or word i 0 ∷ []) ≡ take (i + 1) word = sym (ap (λ j. take j word) (add-one i) ∙ take-suc word i 0 h) in
-    let f : at + i + 1 ≡ at + (i + 1) = omega arith in
-    subst (λ t. Appends l at t (set l' (at + i) (get_or word i 0)) (at + (i + 1))) e
-    (subst (λ y. Appends l at (take i word ++ (get_or word i 0 ∷ [])) (set l' (at + i) (get_or word i 0)) y) f
-    (appends_both a (appends_byte l' (at + i) (get_or word i 0) (omega (arith, a.long)))))
+-- what is copied into a part of the buffer is put there
+pub appends_part : (l word : List ℕ) (at k : ℕ) {part : List ℕ} → part ≡ word → k ≡ length word → at + length word ≤ length l →
+    Appends l at word (put_mid at k l part) (at + length word)
+appends_part l word at k e n h =
+    rw e
+    (record {
+      text_stands = take-put_mid at k l word (at + length word) refl (omega arith);
+      past = refl;
+      long = simp (length-append, length-take, length-drop) (omega arith);
+      rest = drop-put_mid at k l word (at + length word) (omega arith) (omega arith) (omega arith);
+    })
 
 pub appends_entry : (list : List ℕ) (i : ℕ) {l l' l'' : List ℕ} {at x y : ℕ} → i < length list → Appends l at (fields (take i list)) l' x →
     Appends l' x (32 ∷ decimal (get_or list i 0)) l'' y → Appends l at (fields (take (i + 1) list)) l'' y

@@ -18,7 +18,7 @@ pub fn put_short(line: &mut [u8], from: usize, n: u64) -> usize
     let b = put_digit(line, a, myriads, thousands);
     let c = put_digit(line, b, thousands, hundreds);
     let d = put_digit(line, c, hundreds, tens);
-    line[d] = 48 + (n - 10 * tens) as u8;
+    line[d] = b'0' + (n - 10 * tens) as u8;
     d + 1
 }
 
@@ -28,7 +28,7 @@ fn put_digit(line: &mut [u8], at: usize, tens: u64, q: u64) -> usize
     requires at_in_bounds { at < length line.old }
     ensures { (l : List ℕ) (from : ℕ) → Leading l from tens line.old at → Leading l from q line.new result }
 {
-    line[at] = 48 + (q - 10 * tens) as u8;
+    line[at] = b'0' + (q - 10 * tens) as u8;
     if 0 < q {
         return at + 1;
     }
@@ -50,14 +50,12 @@ fn width(n: u64) -> usize
     ensures value { result ≡ width_from 20 1 n }
     ensures upper_bound { result ≤ 20 }
 {
-    let mut k = 1;
     let mut power: u64 = 10;
-    while k < 19 {
+    for k in 1..19 {
         if n < power {
             return k;
         }
-        power = power * 10;
-        k += 1;
+        power *= 10;
     }
     if n < power {
         return 19;
@@ -71,11 +69,9 @@ fn spell(line: &mut [u8], at: usize, k: usize, n: u64)
     ensures line_after { take (at + k) line.new ≡ take at line.old ++ last_digits 10 k n }
     ensures line_unchanged { drop (at + k) line.new ≡ drop (at + k) line.old }
 {
-    let mut i = k;
     let mut rest = n;
-    while 0 < i {
-        i -= 1;
-        line[at + i] = 48 + (rest % 10) as u8;
-        rest = rest / 10;
+    for i in (0..k).rev() {
+        line[at + i] = b'0' + (rest % 10) as u8;
+        rest /= 10;
     }
 }

@@ -2,7 +2,7 @@
 // Public for the crates above only.
 #![tactic(auto)]
 
-ghost use Rattle.std.specs.Prelude.{[], ◌∷◌, suc, ◌+◌, ◌*◌, ◌≤◌, length, take};
+ghost use Rattle.std.specs.Prelude.{[], ◌∷◌, suc, ◌+◌, ◌*◌, ◌≤◌, length};
 ghost use Rattle.pieces.specs.Pieces.{decimal, fields, Appends};
 
 use digits::{put_long, put_short};
@@ -13,12 +13,9 @@ pub fn put_word(line: &mut [u8], at: usize, word: &[u8]) -> usize
     requires { at + length word.now ≤ length line.old }
     ensures { Appends line.old at word.now line.new result }
 {
-    let mut i = 0;
-    while i < word.len() {
-        line[at + i] = word[i];
-        i += 1;
-    }
-    at + i
+    let end = at + word.len();
+    line[at..end].copy_from_slice(word);
+    end
 }
 
 // A space and the number in base ten.
@@ -26,7 +23,7 @@ pub fn put_number(line: &mut [u8], at: usize, n: u64) -> usize
     requires { at + suc (length (decimal n)) ≤ length line.old }
     ensures { Appends line.old at (32 ∷ decimal n) line.new result }
 {
-    line[at] = 32;
+    line[at] = b' ';
     let from = at + 1;
     if n < 100000 {
         return put_short(line, from, n);
@@ -34,18 +31,15 @@ pub fn put_number(line: &mut [u8], at: usize, n: u64) -> usize
     put_long(line, from, n)
 }
 
-// The first k entries of the list, each with a space before it.
-pub fn put_list(line: &mut [u8], at: usize, list: &[u16], k: usize) -> usize
-    requires k_in_bounds { k ≤ length list.now }
-    requires k_in_bounds_2 { at + 6 * k ≤ length line.old }
-    ensures appends { Appends line.old at (fields (take k list.now)) line.new result }
-    ensures upper_bound { result ≤ at + 6 * k }
+// The entries of the list, each with a space before it.
+pub fn put_list(line: &mut [u8], at: usize, list: &[u16]) -> usize
+    requires { at + 6 * length list.now ≤ length line.old }
+    ensures appends { Appends line.old at (fields list.now) line.new result }
+    ensures upper_bound { result ≤ at + 6 * length list.now }
 {
     let mut to = at;
-    let mut i = 0;
-    while i < k {
-        to = put_number(line, to, list[i] as u64);
-        i += 1;
+    for n in list {
+        to = put_number(line, to, u64::from(*n));
     }
     to
 }
@@ -55,6 +49,6 @@ pub fn finish(line: &mut [u8], at: usize) -> usize
     requires { at + 1 ≤ length line.old }
     ensures { Appends line.old at (10 ∷ []) line.new result }
 {
-    line[at] = 10;
+    line[at] = b'\n';
     at + 1
 }

@@ -1,7 +1,7 @@
 -- What the crates above may use of a plan: that nothing refuses it exactly where it is a GoodPlan (`good_bounds`, `bounds_good`), which refusals
 -- there are and what each says (`plan_refusals`), that a plan made with no refusal is good (`of_good`, `blank_good`,
 -- `straight_good`, `powers_good`, `ruler_good`), a plan with another shift, and the rows of a place.
-use Rattle.std.specs.Prelude.{◌≡◌, ◌≢◌, ◌⊎◌, Bool, true, false, ◌&&◌, List, [], ◌∷◌, map, ℕ, zero, suc, ◌+◌, ◌-◌, ◌*◌, ◌/◌, ◌%◌, ◌^◌, ◌<◌, ◌≤◌, leb, ltb, eqb, length, get_or, set, take, replicate}
+use Rattle.std.specs.Prelude.{◌≡◌, ◌≢◌, ◌⊎◌, Bool, true, false, ◌&&◌, List, [], ◌∷◌, map, ℕ, zero, suc, ◌+◌, ◌-◌, ◌*◌, ◌/◌, ◌%◌, ◌^◌, ◌<◌, ◌≤◌, leb, ltb, eqb, length, get_or, set, take, replicate, Ok, Err, Result}
 use Rattle.std.proofs.Math.Path.{refl}
 use Rattle.std.proofs.Common.{sym, ◌∙◌, ap, subst, inl, inr, arith, mod-lt, mod-eq_of_lt, length-take, length-set, take-suc, get_or-take, get_or-set_same, get_or-set_other, leb-true, le-leb, eqb-true, eq-eqb, ltb-true, lt-ltb}
 use Rattle.std.proofs.Math.Logic.{by_cases}
@@ -14,12 +14,10 @@ use Rattle.math.specs.Members.{up_to}
 use Rattle.math.specs.MembersLaws.{length_up_to, get_or_up_to, up_to_suc}
 use Rattle.math.specs.Tests.{and_left, and_right}
 use Rattle.math.specs.Padded.{zeros_at}
-use Rattle.refusals.specs.Refusals.{check_number, unless, ◌then◌}
-use Rattle.refusals.proofs.RefusalLaws.{not_eleven, pass_not_stop, stop_same, unless_pass, then_pass}
+use Rattle.refusals.specs.Refusals.{check_number, test_of, unless, ◌then◌, Check}
+use Rattle.refusals.proofs.RefusalLaws.{not_eleven, pass_not_stop, answer_not_stop, stop_same, unless_pass, then_pass}
 use Rattle.refusals.specs.declared.Refusal.{Refusal}
 use Rattle.refusals.specs.declared.Refusal.TheVariants.{Size, Shift, Family}
-use Rattle.refusals.specs.declared.Check.{Check}
-use Rattle.refusals.specs.declared.Check.TheVariants.{Pass, Stop}
 use Rattle.bounds.specs.Bounds.{size_fits, all_below, min_n, max_n, min_t, max_t, max_places}
 use Rattle.shifts.specs.Shifts.{gaps}
 use Rattle.shifts.specs.ShiftsLaws.{take_padded, below_all_below}
@@ -28,10 +26,9 @@ use Rattle.ruler.specs.Ruler.{ruler_t, ruler_shifts}
 use Rattle.ruler.proofs.RulerLaws.{ruler_length, ruler_below, ruler_fits}
 use Rattle.plan.specs.Layout.{Layout, Valid, layout, divisor, message_count, bottom_row, top_row, top, bottom}
 use Rattle.plan.specs.GoodPlan.{GoodPlan, plan_valid}
-use Rattle.plan.specs.Plans.{raw_plan, with_shift, layout_of, shifts_check, check_by, plan_check, made, answered, plan_of, blank_of, straight_of, powers_of, ruler_of, count_of, count_number, message_count_of}
+use Rattle.plan.specs.Plans.{raw_plan, plan_in, with_shift, layout_of, shifts_check, check_by, plan_check, no_plan, plan, answered, plan_of, blank_of, straight_of, powers_of, ruler_of, count_of, message_count_of}
 use Rattle.plan.specs.declared.Plan.{Plan}
-use Rattle.plan.specs.declared.Count.{Count}
-use Rattle.plan.specs.declared.Count.TheVariants.{Is, Not}
+use Rattle.std.specs.Result.{result_unwrap_or}
 
 -- n, t and n × t within bounds: what the test of the size says
 pub record Fitting (n t : ℕ) : Type 0 where
@@ -74,18 +71,18 @@ first_below {t} h (suc n) (p ∷ ps) e zero lt = ltb-true p t (and_left (ltb p t
 first_below {t} h (suc n) (p ∷ ps) e (suc j) lt = first_below h n ps (and_right (ltb p t) (all_below t (take n ps)) e) j (omega arith)
 
 -- the tests of a plan that passes
-tests_pass : (n t : ℕ) (s : List ℕ) → check_by n t s ≡ Pass → (size_fits n t ≡ true) × (length s ≡ n) × (all_below t s ≡ true)
+tests_pass : (n t : ℕ) (s : List ℕ) → check_by n t s ≡ Ok tt → (size_fits n t ≡ true) × (length s ≡ n) × (all_below t s ≡ true)
 unfolding check_by shifts_check
 tests_pass n t s e =
     let a = then_pass (unless (size_fits n t) Size) _ e in
     let b = then_pass (unless (eqb (length s) n) Shift) _ a.1 in
     (unless_pass _ Size a.0, eqb-true (length s) n (unless_pass _ Shift b.0), unless_pass _ Shift b.1)
 
-pass_tests : (n t : ℕ) (s : List ℕ) → size_fits n t ≡ true → length s ≡ n → all_below t s ≡ true → check_by n t s ≡ Pass
+pass_tests : (n t : ℕ) (s : List ℕ) → size_fits n t ≡ true → length s ≡ n → all_below t s ≡ true → check_by n t s ≡ Ok tt
 unfolding check_by shifts_check
 pass_tests n t s a b c = simp (a, eq-eqb (length s) n b, c)
 
-pub good_bounds : (p : Plan) → plan_check p ≡ Pass → GoodPlan p.n p.t p.shifts
+pub good_bounds : (p : Plan) → plan_check p ≡ Ok tt → GoodPlan p.n p.t p.shifts
 unfolding plan_check
 good_bounds p e =
     let tests = tests_pass p.n p.t (take p.n p.shifts) e in
@@ -101,7 +98,7 @@ good_bounds p e =
     }
 
 -- and the other way
-pub bounds_good : (p : Plan) → GoodPlan p.n p.t p.shifts → plan_check p ≡ Pass
+pub bounds_good : (p : Plan) → GoodPlan p.n p.t p.shifts → plan_check p ≡ Ok tt
 unfolding plan_check
 bounds_good p g =
     pass_tests p.n p.t (take p.n p.shifts) (fitting_size (good_fitting g)) (omega (arith, length-take p.n p.shifts, g.long))
@@ -113,13 +110,13 @@ bounds_good p g =
         let lt : j < p.n = omega arith in
         subst (λ (x : ℕ). x < p.t) (sym (get_or-take p.n p.shifts j 0 lt)) (g.below j lt)
 
-pub good_valid : (p : Plan) → plan_check p ≡ Pass → Valid (layout_of p)
+pub good_valid : (p : Plan) → plan_check p ≡ Ok tt → Valid (layout_of p)
 unfolding layout_of
 good_valid p e = plan_valid (good_bounds p e)
 
 -- ---- a plan that is refused
 
-by_tests : (a b c : Bool) {x : Refusal} → (unless a Size then unless b Shift then unless c Shift) ≡ Stop x →
+by_tests : (a b c : Bool) {x : Refusal} → (unless a Size then unless b Shift then unless c Shift) ≡ Err x →
     ((x ≡ Size) × (a ≡ false)) ⊎ ((x ≡ Shift) × (a ≡ true) × (b && c ≡ false))
 by_tests true true true e = absurd (pass_not_stop _ e)
 by_tests true true false e = inr (stop_same (sym e), refl, refl)
@@ -127,7 +124,7 @@ by_tests true false c e = inr (stop_same (sym e), refl, refl)
 by_tests false b c e = inl (stop_same (sym e), refl)
 
 -- a plan is refused by 1 or 2, and each says what it should
-pub plan_refusals : (p : Plan) {x : Refusal} → plan_check p ≡ Stop x →
+pub plan_refusals : (p : Plan) {x : Refusal} → plan_check p ≡ Err x →
     ((x ≡ Size) × (size_fits p.n p.t ≡ false))
     ⊎ ((x ≡ Shift) × (size_fits p.n p.t ≡ true) × (eqb (length (take p.n p.shifts)) p.n && all_below p.t (take p.n p.shifts) ≡ false))
 unfolding plan_check check_by shifts_check
@@ -135,24 +132,24 @@ plan_refusals p e = by_tests (size_fits p.n p.t) (eqb (length (take p.n p.shifts
 
 -- ---- the constructors: where nothing refuses, the plan is good
 
-made_good : (n t : ℕ) (s : List ℕ) → size_fits n t ≡ true → length s ≡ n → all_below t s ≡ true → plan_check (made n t s).plan ≡ Pass
-unfolding plan_check made
+made_good : (n t : ℕ) (s : List ℕ) → size_fits n t ≡ true → length s ≡ n → all_below t s ≡ true → plan_check (plan n t s) ≡ Ok tt
+unfolding plan_check plan
 made_good n t s size count below = simp (take_padded s n count, pass_tests n t s size count below)
 
-answered_good : (c : Check) (n t : ℕ) (s : List ℕ) → (c ≡ Pass → plan_check (made n t s).plan ≡ Pass) → (answered c n t s).answer ≡ Pass → plan_check (answered c n t s).plan ≡ Pass
+answered_good : (c : Check) (n t : ℕ) (s : List ℕ) {p : Plan} → (c ≡ Ok tt → plan_check (plan n t s) ≡ Ok tt) → answered c n t s ≡ Ok p → plan_check p ≡ Ok tt
 unfolding answered
-answered_good Pass n t s f e = f refl
-answered_good (Stop x) n t s f e = absurd (pass_not_stop x (sym e))
+answered_good (Ok tt) n t s f e = subst (λ (q : Plan). plan_check q ≡ Ok tt) (ap (λ r. result_unwrap_or r no_plan) e) (f refl)
+answered_good (Err x) n t s f e = absurd (answer_not_stop x (sym e))
 
-pub of_good : (n t : ℕ) (s : List ℕ) → (plan_of n t s).answer ≡ Pass → plan_check (plan_of n t s).plan ≡ Pass
+pub of_good : (n t : ℕ) (s : List ℕ) {p : Plan} → plan_of n t s ≡ Ok p → plan_check p ≡ Ok tt
 unfolding plan_of
 of_good n t s = answered_good (check_by n t s) n t s (λ e. let tests = tests_pass n t s e in made_good n t s tests.0 tests.1 tests.2)
 
 -- a family: its size, and its condition
-both_pass : (a b : Bool) → (unless a Size then unless b Family) ≡ Pass → (a ≡ true) × (b ≡ true)
+both_pass : (a b : Bool) → (unless a Size then unless b Family) ≡ Ok tt → (a ≡ true) × (b ≡ true)
 both_pass a b e = let h = then_pass (unless a Size) (unless b Family) e in (unless_pass a Size h.0, unless_pass b Family h.1)
 
-pub blank_good : (n t : ℕ) → (blank_of n t).answer ≡ Pass → plan_check (blank_of n t).plan ≡ Pass
+pub blank_good : (n t : ℕ) {p : Plan} → blank_of n t ≡ Ok p → plan_check p ≡ Ok tt
 unfolding blank_of
 blank_good n t =
     answered_good (unless (size_fits n t) Size) n t (replicate n 0)
@@ -161,7 +158,7 @@ blank_good n t =
     made_good n t (replicate n 0) size (length-replicate n 0)
     (below_all_below t (replicate n 0) (λ j h. rw (zeros_at n j) (size_fitting n t size).t_min)))
 
-pub straight_good : (n t : ℕ) → (straight_of n t).answer ≡ Pass → plan_check (straight_of n t).plan ≡ Pass
+pub straight_good : (n t : ℕ) {p : Plan} → straight_of n t ≡ Ok p → plan_check p ≡ Ok tt
 unfolding straight_of
 straight_good n t =
     answered_good (unless (size_fits n t) Size then unless (leb n t) Family) n t (up_to n)
@@ -177,7 +174,7 @@ unfolding all_below
 all_below_map f h [] = refl
 all_below_map {t} f h (x ∷ xs) = simp (lt-ltb (f x) t (h x), all_below_map f h xs)
 
-pub powers_good : (n t q : ℕ) → (powers_of n t q).answer ≡ Pass → plan_check (powers_of n t q).plan ≡ Pass
+pub powers_good : (n t q : ℕ) {p : Plan} → powers_of n t q ≡ Ok p → plan_check p ≡ Ok tt
 unfolding powers_of
 powers_good n t q =
     answered_good (unless (size_fits n t) Size then unless (powers_need n t q) Family) n t (map (λ j. q ^ j % t) (up_to n))
@@ -186,7 +183,7 @@ powers_good n t q =
     made_good n t (map (λ j. q ^ j % t) (up_to n)) size (length-map (up_to n) (λ j. q ^ j % t) ∙ length_up_to n)
     (all_below_map (λ j. q ^ j % t) (λ j. mod-lt (q ^ j) (size_fitting n t size).t_min) (up_to n)))
 
-pub ruler_good : (n : ℕ) → (ruler_of n).answer ≡ Pass → plan_check (ruler_of n).plan ≡ Pass
+pub ruler_good : (n : ℕ) {p : Plan} → ruler_of n ≡ Ok p → plan_check p ≡ Ok tt
 unfolding ruler_of
 ruler_good n =
     answered_good (unless (leb 2 n && leb n 32) Size then unless (leb 3 n && leb n 14) Family) n (ruler_t n) (ruler_shifts n)
@@ -196,8 +193,13 @@ ruler_good n =
     let high = leb-true n 14 (and_right (leb 3 n) (leb n 14) need) in
     made_good n (ruler_t n) (ruler_shifts n) (ruler_fits n low high) (ruler_length n low high) (ruler_below n low high))
 
+-- the same of the test and the plan of an answer
+pub answer_good : (r : Result Plan Refusal) → ((p : Plan) → r ≡ Ok p → plan_check p ≡ Ok tt) → test_of r ≡ Ok tt → plan_check (plan_in r) ≡ Ok tt
+answer_good (Ok p) f e = f p refl
+answer_good (Err x) f e = absurd (pass_not_stop x (sym e))
+
 -- a good plan with another shift below t is good
-pub shift_good : (p : Plan) (j x : ℕ) → plan_check p ≡ Pass → x < p.t → plan_check (with_shift p j x) ≡ Pass
+pub shift_good : (p : Plan) (j x : ℕ) → plan_check p ≡ Ok tt → x < p.t → plan_check (with_shift p j x) ≡ Ok tt
 unfolding with_shift
 shift_good p j x e h =
     let g = good_bounds p e in
@@ -247,24 +249,19 @@ messages_are n t s good h =
     let d = h ∙ divisor_is (raw_plan n t s) (omega (arith, good.n_min)) good.long in
     ap (λ (x : ℕ). n * t - (2 * t - x)) d
 
-pub count_is : (p : Plan) {k : ℕ} → plan_check p ≡ Pass → k ≡ message_count (layout_of p) → Is k ≡ message_count_of p
+pub count_is : (p : Plan) {k : ℕ} → plan_check p ≡ Ok tt → k ≡ message_count (layout_of p) → Ok k ≡ message_count_of p
 unfolding message_count_of
-count_is p e h = ap Is h ∙ ap (λ (c : Check). count_of c (message_count (layout_of p))) (sym e)
+count_is p e h = ap Ok h ∙ ap (λ (c : Check). count_of c (message_count (layout_of p))) (sym e)
 
-pub count_not : (p : Plan) {x : Refusal} → plan_check p ≡ Stop x → Not x ≡ message_count_of p
+pub count_not : (p : Plan) {x : Refusal} → plan_check p ≡ Err x → Err x ≡ message_count_of p
 unfolding message_count_of
 count_not p e = ap (λ (c : Check). count_of c (message_count (layout_of p))) (sym e)
 
 -- the number of a count is that of what refuses the call
-pub count_number_lem : (c : Check) (k : ℕ) → count_number (count_of c k) ≡ check_number c
+pub count_number_lem : (c : Check) (k : ℕ) → check_number (count_of c k) ≡ check_number c
 unfolding count_of
-count_number_lem Pass k = refl
-count_number_lem (Stop x) k = refl
-
--- nor has a count the number that is struck from the table (document 02, N4)
-pub count_not_eleven : (a : Count) → count_number a ≢ 11
-count_not_eleven (Is k) e = omega (arith, e)
-count_not_eleven (Not x) e = not_eleven x e
+count_number_lem (Ok tt) k = refl
+count_number_lem (Err x) k = refl
 
 -- the remainder of a bottom row where p is above k, and where it is not
 pub bottom_row_wraps : {t p k : ℕ} → k < p → p < t → bottom_row t p k ≡ t + (k + t - p)

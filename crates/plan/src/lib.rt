@@ -1,17 +1,17 @@
 // A plan: n sections of t symbols, each section with its shift. What refuses a plan, and the families of plans.
 // Entries: Plan::check, Plan::raw, Plan::none, Plan::with_shift, Plan::of, Plan::blank, Plan::straight, Plan::powers, Plan::ruler,
-// Plan::message_count, Count::number, Count::value. The module ties and message_places are public for the crates above only.
+// Plan::message_count. The module ties and message_places are public for the crates above only.
 #![tactic(auto)]
 
 ghost use Rattle.std.specs.Prelude.{◌≡◌, List, ℕ};
-ghost use Rattle.refusals.specs.Refusals.{check_number};
+ghost use Rattle.refusals.specs.Refusals.{check_number, count_value};
 ghost use Rattle.shifts.specs.Shifts.{padded};
 ghost use Rattle.plan.specs.Layout.{layout, message_count};
 ghost use Rattle.plan.specs.GoodPlan.{GoodPlan};
 ghost use Rattle.plan.specs.Plans as plans;
-ghost use Rattle.plan.specs.Plans.{raw_plan, no_plan, with_shift, shifts_check, plan_check, plan_of, blank_of, straight_of, powers_of, ruler_of, message_count_of, count_number, count_value};
+ghost use Rattle.plan.specs.Plans.{raw_plan, no_plan, with_shift, shifts_check, plan_check, plan_of, blank_of, straight_of, powers_of, ruler_of, message_count_of};
 
-use refusals::{Check, Refusal};
+use refusals::Refusal;
 
 pub mod ties;
 
@@ -25,46 +25,11 @@ pub struct Plan {
 }
 
 // 01: a place number and a row number are never used one for the other.
-#[derive(Clone, Copy)]
+#[derive(Clone, Copy, PartialEq, Eq, PartialOrd, Ord)]
 pub struct Place(pub u16);
 
-#[derive(Clone, Copy)]
+#[derive(Clone, Copy, PartialEq, Eq, PartialOrd, Ord)]
 pub struct Row(pub u16);
-
-// A constructor's answer with the plan beside it; a refusal makes none, and the record is all zeros.
-#[derive(Clone, Copy)]
-pub struct Made {
-    pub answer: Check,
-    pub plan: Plan,
-}
-
-// A number that was asked for, or the refusal of the call.
-#[derive(Clone, Copy)]
-pub enum Count {
-    Is(usize),
-    Not(Refusal),
-}
-
-impl Count {
-    pub fn number(self) -> u8
-        ensures { result ≡ count_number self }
-    {
-        match self {
-            Count::Is(_) => 0,
-            Count::Not(x) => x.number(),
-        }
-    }
-
-    // 0 beside a refusal.
-    pub fn value(self) -> usize
-        ensures { result ≡ count_value self }
-    {
-        match self {
-            Count::Is(k) => k,
-            Count::Not(_) => 0,
-        }
-    }
-}
 
 impl Plan {
     pub const MIN_N: usize = bounds::MIN_N;
@@ -84,7 +49,7 @@ impl Plan {
         Plan { n, t, shifts }
     }
 
-    // No plan: what stands beside a refusal, and before a job's first plan.
+    // No plan: what C is given beside a refusal.
     pub fn none() -> Plan
         ensures { result ≡ no_plan }
     {
@@ -104,94 +69,89 @@ impl Plan {
     }
 
     // What refuses a plan: 1, then 2.
-    pub fn check(self) -> Check
+    pub fn check(self) -> Result<(), Refusal>
         ensures { result ≡ plan_check self }
     {
         let n = self.n;
         let t = self.t;
         let s = self.shifts;
-        if !bounds::size_fits(n, t) {
-            return Check::Stop(Refusal::Size);
+        if bounds::size_fits(n, t) {
+            check_shifts(n, t, &s[..n])
+        } else {
+            Err(Refusal::Size)
         }
-        check_shifts(n, t, &s[..n])
     }
 
-    pub fn of(n: usize, t: usize, shifts: &[u16]) -> Made
+    pub fn of(n: usize, t: usize, shifts: &[u16]) -> Result<Plan, Refusal>
         ensures { result ≡ plan_of n t shifts.now }
     {
         if !bounds::size_fits(n, t) {
-            return refused(Refusal::Size);
+            return Err(Refusal::Size);
         }
-        match check_shifts(n, t, shifts) {
-            Check::Pass => good(n, t, shifts::copied(shifts)),
-            Check::Stop(x) => refused(x),
-        }
+        check_shifts(n, t, shifts)?;
+        Ok(good(n, t, shifts::copied(shifts)))
     }
 
     // All shifts 0.
-    pub fn blank(n: usize, t: usize) -> Made
+    pub fn blank(n: usize, t: usize) -> Result<Plan, Refusal>
         ensures { result ≡ blank_of n t }
     {
         if !bounds::size_fits(n, t) {
-            return refused(Refusal::Size);
+            return Err(Refusal::Size);
         }
-        good(n, t, [0; 32])
+        Ok(good(n, t, [0; 32]))
     }
 
-    pub fn straight(n: usize, t: usize) -> Made
+    pub fn straight(n: usize, t: usize) -> Result<Plan, Refusal>
         ensures { result ≡ straight_of n t }
     {
         if !bounds::size_fits(n, t) {
-            return refused(Refusal::Size);
+            return Err(Refusal::Size);
         }
         if t < n {
-            return refused(Refusal::Family);
+            return Err(Refusal::Family);
         }
-        good(n, t, shifts::counting(n))
+        Ok(good(n, t, shifts::counting(n)))
     }
 
-    pub fn powers(n: usize, t: usize, q: usize) -> Made
+    pub fn powers(n: usize, t: usize, q: usize) -> Result<Plan, Refusal>
         ensures { result ≡ powers_of n t q }
     {
         if !bounds::size_fits(n, t) {
-            return refused(Refusal::Size);
+            return Err(Refusal::Size);
         }
         if !families::powers_need(n, t, q) {
-            return refused(Refusal::Family);
+            return Err(Refusal::Family);
         }
-        good(n, t, shifts::powers(n, t, q))
+        Ok(good(n, t, shifts::powers(n, t, q)))
     }
 
     // The size is judged by n alone.
-    pub fn ruler(n: usize) -> Made
+    pub fn ruler(n: usize) -> Result<Plan, Refusal>
         ensures { result ≡ ruler_of n }
     {
         if n < Plan::MIN_N {
-            return refused(Refusal::Size);
+            return Err(Refusal::Size);
         }
         if Plan::MAX_N < n {
-            return refused(Refusal::Size);
+            return Err(Refusal::Size);
         }
         if n < ruler::MIN_N {
-            return refused(Refusal::Family);
+            return Err(Refusal::Family);
         }
         if ruler::MAX_N < n {
-            return refused(Refusal::Family);
+            return Err(Refusal::Family);
         }
-        good(n, ruler::t_of(n), ruler::shifts_of(n))
+        Ok(good(n, ruler::t_of(n), ruler::shifts_of(n)))
     }
 
-    pub fn message_count(self) -> Count
+    pub fn message_count(self) -> Result<usize, Refusal>
         ensures value { result ≡ message_count_of self }
-        ensures result_value { count_number result ≡ check_number (plan_check self) }
+        ensures result_value { check_number result ≡ check_number (plan_check self) }
     {
-        let n = self.n;
-        let t = self.t;
         let s = self.shifts;
-        match self.check() {
-            Check::Pass => Count::Is(message_places(n, t, &s[..])),
-            Check::Stop(x) => Count::Not(x),
-        }
+        self.check()?;
+        Ok(message_places(self.n, self.t, &s[..]))
     }
 }
 
@@ -205,33 +165,21 @@ pub fn message_places(n: usize, t: usize, shifts: &[u16]) -> usize
 }
 
 // 2: not n shifts, or one is t or more.
-fn check_shifts(n: usize, t: usize, shifts: &[u16]) -> Check
+fn check_shifts(n: usize, t: usize, shifts: &[u16]) -> Result<(), Refusal>
     ensures { result ≡ shifts_check n t shifts.now }
 {
     if shifts.len() != n {
-        return Check::Stop(Refusal::Shift);
+        return Err(Refusal::Shift);
     }
     if !shifts::all_below(shifts, t) {
-        return Check::Stop(Refusal::Shift);
+        return Err(Refusal::Shift);
     }
-    Check::Pass
+    Ok(())
 }
 
 // The plan of the shifts that the array holds before its zeros.
-fn good(n: usize, t: usize, shifts: [u16; 32]) -> Made
-    ensures { (s : List ℕ) → shifts ≡ padded s → result ≡ plans.made n t s }
+fn good(n: usize, t: usize, shifts: [u16; 32]) -> Plan
+    ensures { (s : List ℕ) → shifts ≡ padded s → result ≡ plans.plan n t s }
 {
-    Made {
-        answer: Check::Pass,
-        plan: Plan::raw(n, t, shifts),
-    }
-}
-
-fn refused(x: Refusal) -> Made
-    ensures { result ≡ plans.refused x }
-{
-    Made {
-        answer: Check::Stop(x),
-        plan: Plan::none(),
-    }
+    Plan::raw(n, t, shifts)
 }

@@ -5,37 +5,10 @@ ghost use Rattle.bounds.specs.Bounds.{min_n, max_n, min_t, max_t, max_places};
 
 use crate::Plan;
 
-pub fn min_n() -> usize
-    ensures value { result ≡ min_n }
-    ensures constant { result ≡ Plan.MIN_N }
-{
-    Plan::MIN_N
-}
-
-pub fn max_n() -> usize
-    ensures value { result ≡ max_n }
-    ensures constant { result ≡ Plan.MAX_N }
-{
-    Plan::MAX_N
-}
-
-pub fn min_t() -> usize
-    ensures value { result ≡ min_t }
-    ensures constant { result ≡ Plan.MIN_T }
-{
-    Plan::MIN_T
-}
-
-pub fn max_t() -> usize
-    ensures value { result ≡ max_t }
-    ensures constant { result ≡ Plan.MAX_T }
-{
-    Plan::MAX_T
-}
-
-pub fn max_places() -> usize
-    ensures value { result ≡ max_places }
-    ensures constant { result ≡ Plan.MAX_PLACES }
-{
-    Plan::MAX_PLACES
-}
+pub fn ties()
+    ensures min_n { Plan.MIN_N ≡ min_n }
+    ensures max_n { Plan.MAX_N ≡ max_n }
+    ensures min_t { Plan.MIN_T ≡ min_t }
+    ensures max_t { Plan.MAX_T ≡ max_t }
+    ensures max_places { Plan.MAX_PLACES ≡ max_places }
+{}

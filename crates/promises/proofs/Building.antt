@@ -1,7 +1,7 @@
 -- How an answer keeps its promise: each outcome of recover, encode, message_of and fetch with what it has to show.
 -- Main results: decides_recovered, decides_loose, decides_crossed, decided_forest; recovers_refused, recovers_passed; encodes_refused, encodes_done;
 -- reads_refused, reads_read, reads_crossed; fetches_refused, fetches_fetched.
-use Rattle.std.specs.Prelude.{◌≡◌, refl, ◌≢◌, true, List, [], ◌∷◌, map, ℕ, zero, suc, ◌+◌, ◌-◌, ◌*◌, ◌/◌, ◌≤◌, ◌<◌, length, replicate}
+use Rattle.std.specs.Prelude.{◌≡◌, refl, ◌≢◌, true, List, [], ◌∷◌, map, ℕ, zero, suc, ◌+◌, ◌-◌, ◌*◌, ◌/◌, ◌≤◌, ◌<◌, length, replicate, Ok, Err}
 use Rattle.std.proofs.Common.{sym, ◌∙◌, ap, div-lt_iff_lt-mul, arith, ext_get_or, take_all}
 use borrow.Author.Tests.{eq-eqb}
 use Rattle.math.specs.Members.{◌∈◌}
@@ -29,14 +29,10 @@ use Rattle.calls.specs.Calls.{check_of, count_lent, lengths_fit, spare_clear, no
 use Rattle.calls.proofs.CallsLaws.{pass_good, pass_lengths, passes}
 use Rattle.calls.specs.declared.Lent.{Lent}
 use Rattle.refusals.specs.declared.Refusal.{Refusal}
-use Rattle.refusals.specs.declared.Check.{Check}
-use Rattle.refusals.specs.declared.Check.TheVariants.{Pass, Stop}
+use Rattle.refusals.specs.Refusals.{Check, check_number}
 use Rattle.answers.specs.declared.Recovery.{Recovery}
 use Rattle.answers.specs.declared.Recovery.TheVariants.{Recovered, Crossed, Loose, Refused}
-use Rattle.answers.specs.declared.Encoding.TheVariants as encoding
 use Rattle.answers.specs.declared.Reading.TheVariants as reading
-use Rattle.answers.specs.declared.Fetching.TheVariants as fetching
-use Rattle.refusals.specs.Refusals.{check_number}
 use Rattle.math.specs.Padded.{padded}
 use Rattle.promises.specs.Promises.{Decides, Recovers, recover_lent, Encodes, Reads, message_lent, Fetches, fetch_check}
 
@@ -55,7 +51,7 @@ pub two_not_none : {A : Type 0} {P : A → Type 0} → TwoOrMore P → ¬ (None 
 two_not_none d n = n d.one d.has
 
 -- a check does not both pass and stop
-pub not_both : {k : Check} {x : Refusal} → k ≡ Pass → k ≡ Stop x → ⊥
+pub not_both : {k : Check} {x : Refusal} → k ≡ Ok tt → k ≡ Err x → ⊥
 not_both p q = zero_one (cc)
 
 -- the answers of recover are told apart
@@ -151,13 +147,13 @@ module _ {L : Layout} (ok : Valid L) {E v : List ℕ} (er : Erased L E) where
         };
       }
 
-pub recovers_refused : (p : Plan) (v m w : List ℕ) {x : Refusal} → check_of p (recover_lent v m w) m ≡ Stop x → Recovers p v m w (Refused x) v w
+pub recovers_refused : (p : Plan) (v m w : List ℕ) {x : Refusal} → check_of p (recover_lent v m w) m ≡ Err x → Recovers p v m w (Refused x) v w
 recovers_refused p v m w {x} stop = record {
   refused = λ y q. let e : Refused x ≡ Refused y = cc in (e, refl, refl);
   passed = λ q. absurd (not_both q stop);
 }
 
-pub recovers_passed : (p : Plan) (v m w : List ℕ) {r : Recovery} {v' w' : List ℕ} → check_of p (recover_lent v m w) m ≡ Pass →
+pub recovers_passed : (p : Plan) (v m w : List ℕ) {r : Recovery} {v' w' : List ℕ} → check_of p (recover_lent v m w) m ≡ Ok tt →
     Decides (layout_of p) (erasures (layout_of p) m) v r v' w' → Recovers p v m w r v' w'
 recovers_passed p v m w pass d = record {
   refused = λ x q. absurd (not_both pass q);
@@ -165,7 +161,7 @@ recovers_passed p v m w pass d = record {
 }
 
 -- a call that passes has a valid layout, in which every section takes part
-pub pass_valid : (p : Plan) (lent : Lent) (m : List ℕ) → check_of p lent m ≡ Pass → Valid (layout_of p)
+pub pass_valid : (p : Plan) (lent : Lent) (m : List ℕ) → check_of p lent m ≡ Ok tt → Valid (layout_of p)
 pass_valid p lent m e = good_valid p (pass_good p lent m e)
 
 pub plan_places : (p : Plan) → Valid (layout_of p) → {c : ℕ} → c < (layout_of p).n * (layout_of p).t → c ∈ places (layout_of p)
@@ -173,14 +169,14 @@ unfolding layout_of layout
 plan_places p ok h = ∈_places (layout_of p) h (∈_up_to ((div-lt_iff_lt-mul ok.positive).1 h))
 
 -- the lengths of a call that passes
-pub recover_lengths : (p : Plan) (v m w : List ℕ) → check_of p (recover_lent v m w) m ≡ Pass →
+pub recover_lengths : (p : Plan) (v m w : List ℕ) → check_of p (recover_lent v m w) m ≡ Ok tt →
     (length v ≡ (layout_of p).n * (layout_of p).t) × (length m ≡ mark_bytes (layout_of p)) × (length w ≡ 2 * (layout_of p).t)
 unfolding recover_lent layout_of layout mark_bytes
 recover_lengths p v m w e =
     let l = pass_lengths p (recover_lent v m w) m e in
     (l.block (length v) refl, l.marks (length m) refl, l.witness (length w) refl)
 
-pub message_lengths : (p : Plan) (d v : List ℕ) → check_of p (message_lent d v) [] ≡ Pass →
+pub message_lengths : (p : Plan) (d v : List ℕ) → check_of p (message_lent d v) [] ≡ Ok tt →
     (length v ≡ (layout_of p).n * (layout_of p).t) × (length d ≡ message_count (layout_of p))
 unfolding message_lent layout_of layout
 message_lengths p d v e =
@@ -196,8 +192,8 @@ clear_spare p m l spare =
     (mark_count_zero m (p.n * p.t) (8 * length m - p.n * p.t) (λ k h l. spare k h (omega arith))))
 
 -- a call of recover passes where the plan is good, the lengths are the plan's and no spare bit is 1
-pub recover_passes : (p : Plan) (v m w : List ℕ) → plan_check p ≡ Pass → length v ≡ (layout_of p).n * (layout_of p).t →
-    length m ≡ mark_bytes (layout_of p) → length w ≡ 2 * (layout_of p).t → NoSpare (layout_of p) m → check_of p (recover_lent v m w) m ≡ Pass
+pub recover_passes : (p : Plan) (v m w : List ℕ) → plan_check p ≡ Ok tt → length v ≡ (layout_of p).n * (layout_of p).t →
+    length m ≡ mark_bytes (layout_of p) → length w ≡ 2 * (layout_of p).t → NoSpare (layout_of p) m → check_of p (recover_lent v m w) m ≡ Ok tt
 recover_passes p v m w good a b c spare = sym (passes p (recover_lent v m w) m good fits (clear_spare p m (omega (arith, b)) spare))
   where
     fits : lengths_fit p.n p.t (message_count (layout_of p)) (recover_lent v m w) ≡ true
@@ -205,7 +201,7 @@ recover_passes p v m w good a b c spare = sym (passes p (recover_lent v m w) m g
         simp (eq-eqb (length v) (p.n * p.t) a, eq-eqb (length m) ((p.n * p.t + 7) / 8) b, eq-eqb (length w) (2 * p.t) c)
 
 -- and the same of the marks alone
-pub count_passes : (p : Plan) (m : List ℕ) → plan_check p ≡ Pass → length m ≡ mark_bytes (layout_of p) → NoSpare (layout_of p) m → check_of p (count_lent m) m ≡ Pass
+pub count_passes : (p : Plan) (m : List ℕ) → plan_check p ≡ Ok tt → length m ≡ mark_bytes (layout_of p) → NoSpare (layout_of p) m → check_of p (count_lent m) m ≡ Ok tt
 count_passes p m good long spare = sym (passes p (count_lent m) m good fits (clear_spare p m (omega (arith, long)) spare))
   where
     fits : lengths_fit p.n p.t (message_count (layout_of p)) (count_lent m) ≡ true
@@ -217,17 +213,17 @@ no_other_carries p ok {w} {d} a x q =
     ext_get_or 0 x w (q.codeword.whole ∙ sym a.codeword.whole)
     (λ c h. carried_same (layout_of p) ok d x w q a c (plan_places p ok (rw q.codeword.whole at h)))
 
-pub encodes_refused : (p : Plan) (d v : List ℕ) {x : Refusal} → check_of p (message_lent d v) [] ≡ Stop x → Encodes p d v (encoding.Refused x) v
+pub encodes_refused : (p : Plan) (d v : List ℕ) {x : Refusal} → check_of p (message_lent d v) [] ≡ Err x → Encodes p d v (Err x) v
 encodes_refused p d v {x} stop = record {
-  refused = λ y q. let e : encoding.Refused x ≡ encoding.Refused y = cc in (e, refl);
+  refused = λ y q. let e : Err x ≡ Err y = cc in (e, refl);
   encoded = λ q. absurd (not_both q stop);
   encoded_to = λ q. absurd (not_both q stop);
   only = λ q. absurd (not_both q stop);
   number = sym (ap check_number stop);
 }
 
-pub encodes_done : (p : Plan) (d v : List ℕ) {v' : List ℕ} → check_of p (message_lent d v) [] ≡ Pass → Carries (layout_of p) v' d →
-    Encodes p d v encoding.Encoded v'
+pub encodes_done : (p : Plan) (d v : List ℕ) {v' : List ℕ} → check_of p (message_lent d v) [] ≡ Ok tt → Carries (layout_of p) v' d →
+    Encodes p d v (Ok tt) v'
 encodes_done p d v pass a = record {
   refused = λ x q. absurd (not_both pass q);
   encoded = λ _. refl;
@@ -236,7 +232,7 @@ encodes_done p d v pass a = record {
   number = sym (ap check_number pass);
 }
 
-pub reads_refused : (p : Plan) (v d : List ℕ) {x : Refusal} → check_of p (message_lent d v) [] ≡ Stop x → Reads p v d (reading.Refused x) d
+pub reads_refused : (p : Plan) (v d : List ℕ) {x : Refusal} → check_of p (message_lent d v) [] ≡ Err x → Reads p v d (reading.Refused x) d
 reads_refused p v d {x} stop = record {
   refused = λ y q. let e : reading.Refused x ≡ reading.Refused y = cc in (e, refl);
   read_when = λ q. absurd (not_both q stop);
@@ -257,7 +253,7 @@ map_bytes v h (c ∷ l) (suc i) = map_bytes v h l i
 pub carries_own : {L : Layout} → Valid L → {v d : List ℕ} → Codeword L v → d ≡ map (at v) (messages L) → Carries L v d
 carries_own {L} ok h e = record { codeword = h; where_to = messages L; message_places = message_lists L ok; symbols = e }
 
-pub reads_read : (p : Plan) (v d : List ℕ) {d' : List ℕ} → check_of p (message_lent d v) [] ≡ Pass → Codeword (layout_of p) v →
+pub reads_read : (p : Plan) (v d : List ℕ) {d' : List ℕ} → check_of p (message_lent d v) [] ≡ Ok tt → Codeword (layout_of p) v →
     d' ≡ map (at v) (messages (layout_of p)) → Reads p v d reading.Read d'
 reads_read p v d pass h e = record {
   refused = λ x q. absurd (not_both pass q);
@@ -269,7 +265,7 @@ reads_read p v d pass h e = record {
   number = λ _. (λ _. h, λ _. refl);
 }
 
-pub reads_crossed : (p : Plan) (v d : List ℕ) → check_of p (message_lent d v) [] ≡ Pass → ¬ (Codeword (layout_of p) v) → Reads p v d reading.Crossed d
+pub reads_crossed : (p : Plan) (v d : List ℕ) → check_of p (message_lent d v) [] ≡ Ok tt → ¬ (Codeword (layout_of p) v) → Reads p v d reading.Crossed d
 reads_crossed p v d pass n = record {
   refused = λ x q. absurd (not_both pass q);
   read_when = λ _. (λ q. absurd (zero_one (cc)), λ h. absurd (n h));
@@ -282,16 +278,16 @@ reads_crossed p v d pass n = record {
 
 -- ---- fetch
 
-pub fetches_refused : (p : Plan) (m l : List ℕ) {x : Refusal} → fetch_check p m l ≡ Stop x → Fetches p m l (fetching.Refused x) l
+pub fetches_refused : (p : Plan) (m l : List ℕ) {x : Refusal} → fetch_check p m l ≡ Err x → Fetches p m l (Err x) l
 fetches_refused p m l {x} stop = record {
-  refused = λ y q. let e : fetching.Refused x ≡ fetching.Refused y = cc in (e, refl);
+  refused = λ y q. let e : Err x ≡ Err y = cc in (e, refl);
   fetched = λ q. absurd (not_both q stop);
   listed = λ q. absurd (not_both q stop);
   number = ap check_number (sym stop);
 }
 
-pub fetches_fetched : (p : Plan) (m l : List ℕ) {l' : List ℕ} {z : ℕ} → fetch_check p m l ≡ Pass →
-    FetchBits (layout_of p) (erasures (layout_of p) m) (length m) l' z → Fetches p m l (fetching.Fetched z) l'
+pub fetches_fetched : (p : Plan) (m l : List ℕ) {l' : List ℕ} {z : ℕ} → fetch_check p m l ≡ Ok tt →
+    FetchBits (layout_of p) (erasures (layout_of p) m) (length m) l' z → Fetches p m l (Ok z) l'
 fetches_fetched p m l {z} pass f = record {
   refused = λ x q. absurd (not_both pass q);
   fetched = λ _. (z, refl);

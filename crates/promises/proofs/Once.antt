@@ -1,7 +1,7 @@
 -- The promises fix everything: two outcomes that keep the same promise on the same input are equal. No bound on any entry of a buffer is needed.
 -- That an answer to a call that passes is no refusal follows from the other fields; these laws say so and do not use `not_refused`. Nor do they use `number` or `only`, which follow too.
 -- Main results: recovers_once, encodes_once, reads_once, fetches_once; decides_not_refused, encodes_not_refused, reads_not_refused; encodes_number, fetches_number.
-use Rattle.std.specs.Prelude.{◌≡◌, refl, ◌≢◌, List, [], ℕ}
+use Rattle.std.specs.Prelude.{◌≡◌, refl, ◌≢◌, List, [], ℕ, Ok, Err, Result}
 use Rattle.std.proofs.Common.{sym, ◌∙◌, ap, ⊎_elim}
 use Rattle.plan.specs.Layout.{Layout, Valid}
 use Rattle.plan.specs.Plans.{layout_of}
@@ -13,18 +13,11 @@ use Rattle.code.proofs.Laws.MarksLaws.{erasures_erased}
 use Rattle.calls.specs.Calls.{check_of}
 use Rattle.refusals.proofs.RefusalLaws.{stop_or_pass}
 use Rattle.refusals.specs.declared.Refusal.{Refusal}
-use Rattle.refusals.specs.declared.Check.{Check}
-use Rattle.refusals.specs.declared.Check.TheVariants.{Pass, Stop}
+use Rattle.refusals.specs.Refusals.{Check, count_value, number_of, check_number}
 use Rattle.answers.specs.declared.Recovery.{Recovery}
 use Rattle.answers.specs.declared.Recovery.TheVariants.{Recovered, Crossed, Loose, Refused}
-use Rattle.answers.specs.declared.Encoding.{Encoding}
-use Rattle.answers.specs.declared.Encoding.TheVariants as encoding
 use Rattle.answers.specs.declared.Reading.{Reading}
 use Rattle.answers.specs.declared.Reading.TheVariants as reading
-use Rattle.answers.specs.declared.Fetching.{Fetching}
-use Rattle.answers.specs.declared.Fetching.TheVariants.{Fetched, Refused as Refusing}
-use Rattle.answers.specs.Answers.{encoding_number, fetching_number, fetching_count}
-use Rattle.refusals.specs.Refusals.{number_of, check_number}
 use Rattle.promises.specs.Promises.{Decides, Recovers, recover_lent, Encodes, Reads, message_lent, Fetches, fetch_check}
 use Rattle.promises.proofs.Building
 use Rattle.promises.proofs.Theorems.{decides_same}
@@ -74,21 +67,21 @@ recovers_once p v m w f g =
     (stop_or_pass (check_of p (recover_lent v m w) m))
 
 -- a call that stops has one outcome; so the one that passes settles it
-stop_once : (k : Check) {A : Type 0} {refused : Refusal → A} {b : List ℕ} {r s : A} {b' c' : List ℕ} → ((x : Refusal) → k ≡ Stop x → (r ≡ refused x) × (b' ≡ b)) →
-    ((x : Refusal) → k ≡ Stop x → (s ≡ refused x) × (c' ≡ b)) → (k ≡ Pass → (r ≡ s) × (b' ≡ c')) → (r ≡ s) × (b' ≡ c')
-stop_once Pass f g pass = pass refl
-stop_once (Stop x) f g pass = ((f x refl).0 ∙ sym (g x refl).0, (f x refl).1 ∙ sym (g x refl).1)
+stop_once : (k : Check) {A : Type 0} {refused : Refusal → A} {b : List ℕ} {r s : A} {b' c' : List ℕ} → ((x : Refusal) → k ≡ Err x → (r ≡ refused x) × (b' ≡ b)) →
+    ((x : Refusal) → k ≡ Err x → (s ≡ refused x) × (c' ≡ b)) → (k ≡ Ok tt → (r ≡ s) × (b' ≡ c')) → (r ≡ s) × (b' ≡ c')
+stop_once (Ok tt) f g pass = pass refl
+stop_once (Err x) f g pass = ((f x refl).0 ∙ sym (g x refl).0, (f x refl).1 ∙ sym (g x refl).1)
 
 -- 01's number of an answer that is done or refused follows from these cases
 number_by : (k : Check) {A : Type 0} (num : A → ℕ) {refused : Refusal → A} {r : A} → ((x : Refusal) → num (refused x) ≡ number_of x) →
-    ((x : Refusal) → k ≡ Stop x → r ≡ refused x) → (k ≡ Pass → num r ≡ 0) → num r ≡ check_number k
-number_by Pass num n stop pass = pass refl
-number_by (Stop x) num n stop pass = ap num (stop x refl) ∙ n x
+    ((x : Refusal) → k ≡ Err x → r ≡ refused x) → (k ≡ Ok tt → num r ≡ 0) → num r ≡ check_number k
+number_by (Ok tt) num n stop pass = pass refl
+number_by (Err x) num n stop pass = ap num (stop x refl) ∙ n x
 
 -- ---- encode
 
 -- the answer and the block
-pub encodes_once : (p : Plan) (d v : List ℕ) {r s : Encoding} {v' x' : List ℕ} → Encodes p d v r v' → Encodes p d v s x' → (r ≡ s) × (v' ≡ x')
+pub encodes_once : (p : Plan) (d v : List ℕ) {r s : Check} {v' x' : List ℕ} → Encodes p d v r v' → Encodes p d v s x' → (r ≡ s) × (v' ≡ x')
 encodes_once p d v {v' = v'} f g =
     stop_once (check_of p (message_lent d v) []) f.refused g.refused
     (λ pass. (
@@ -96,17 +89,17 @@ encodes_once p d v {v' = v'} f g =
       Building.no_other_carries p (Building.pass_valid p (message_lent d v) [] pass) (g.encoded_to pass) v' (f.encoded_to pass),
     ))
 
-pub encodes_not_refused : (p : Plan) (d v : List ℕ) {r : Encoding} {v' : List ℕ} → Encodes p d v r v' → check_of p (message_lent d v) [] ≡ Pass → (x : Refusal) → r ≢ encoding.Refused x
+pub encodes_not_refused : (p : Plan) (d v : List ℕ) {r : Check} {v' : List ℕ} → Encodes p d v r v' → check_of p (message_lent d v) [] ≡ Ok tt → (x : Refusal) → r ≢ Err x
 encodes_not_refused p d v f pass x e = let q = f.encoded pass in Building.zero_one (cc)
 
-pub encodes_number : (p : Plan) (d v : List ℕ) {r : Encoding} {v' : List ℕ} →
-    ((x : Refusal) → check_of p (message_lent d v) [] ≡ Stop x → (r ≡ encoding.Refused x) × (v' ≡ v)) →
-    (check_of p (message_lent d v) [] ≡ Pass → r ≡ encoding.Encoded) → encoding_number r ≡ check_number (check_of p (message_lent d v) [])
-encodes_number p d v stop pass = number_by (check_of p (message_lent d v) []) encoding_number (λ x. refl) (λ x e. (stop x e).0) (λ q. ap encoding_number (pass q))
+pub encodes_number : (p : Plan) (d v : List ℕ) {r : Check} {v' : List ℕ} →
+    ((x : Refusal) → check_of p (message_lent d v) [] ≡ Err x → (r ≡ Err x) × (v' ≡ v)) →
+    (check_of p (message_lent d v) [] ≡ Ok tt → r ≡ Ok tt) → check_number r ≡ check_number (check_of p (message_lent d v) [])
+encodes_number p d v stop pass = number_by (check_of p (message_lent d v) []) check_number (λ x. refl) (λ x e. (stop x e).0) (λ q. ap check_number (pass q))
 
 -- ---- message_of
 
-module _ (p : Plan) (v d : List ℕ) (pass : check_of p (message_lent d v) [] ≡ Pass) where
+module _ (p : Plan) (v d : List ℕ) (pass : check_of p (message_lent d v) [] ≡ Ok tt) where
   -- a block is a codeword or none
   pub reads_not_refused : {r : Reading} {d' : List ℕ} → Reads p v d r d' → (x : Refusal) → r ≢ reading.Refused x
   reads_not_refused {r} f x e =
@@ -131,15 +124,15 @@ reads_once p v d {r} f g = stop_once (check_of p (message_lent d v) []) f.refuse
 -- ---- fetch
 
 -- the answer and the list
-pub fetches_once : (p : Plan) (m l : List ℕ) {r s : Fetching} {l' k' : List ℕ} → Fetches p m l r l' → Fetches p m l s k' → (r ≡ s) × (l' ≡ k')
+pub fetches_once : (p : Plan) (m l : List ℕ) {r s : (Result ℕ Refusal)} {l' k' : List ℕ} → Fetches p m l r l' → Fetches p m l s k' → (r ≡ s) × (l' ≡ k')
 fetches_once p m l {r} {s} f g =
     stop_once (fetch_check p m l) f.refused g.refused
     (λ pass.
     let a = (f.fetched pass).1 in
     let b = (g.fetched pass).1 in
     let e = fetch_bits_once (f.listed pass) (g.listed pass) in
-    (a ∙ ap Fetched (sym (ap fetching_count a) ∙ e.1 ∙ ap fetching_count b) ∙ sym b, e.0))
+    (a ∙ ap Ok (sym (ap count_value a) ∙ e.1 ∙ ap count_value b) ∙ sym b, e.0))
 
-pub fetches_number : (p : Plan) (m l : List ℕ) {r : Fetching} {l' : List ℕ} → ((x : Refusal) → fetch_check p m l ≡ Stop x → (r ≡ Refusing x) × (l' ≡ l)) →
-    (fetch_check p m l ≡ Pass → (z : ℕ) × (r ≡ Fetched z)) → fetching_number r ≡ check_number (fetch_check p m l)
-fetches_number p m l stop pass = number_by (fetch_check p m l) fetching_number (λ x. refl) (λ x e. (stop x e).0) (λ q. ap fetching_number (pass q).1)
+pub fetches_number : (p : Plan) (m l : List ℕ) {r : (Result ℕ Refusal)} {l' : List ℕ} → ((x : Refusal) → fetch_check p m l ≡ Err x → (r ≡ Err x) × (l' ≡ l)) →
+    (fetch_check p m l ≡ Ok tt → (z : ℕ) × (r ≡ Ok z)) → check_number r ≡ check_number (fetch_check p m l)
+fetches_number p m l stop pass = number_by (fetch_check p m l) check_number (λ x. refl) (λ x e. (stop x e).0) (λ q. ap check_number (pass q).1)

@@ -1,7 +1,7 @@
 -- What follows from the promises of recover, encode, message_of and fetch, whatever code keeps them.
 -- Main results: answers_one, shown_cycle_unique, influences_nothing, loose_list_one, pair_never_loose, pair_some_loose, sealable, read_of_encoded,
 -- encode_of_read, fetched_never_loose.
-use Rattle.std.specs.Prelude.{◌≡◌, refl, ◌≢◌, ◌⊎◌, List, [], ℕ, ◌*◌, ◌/◌, ◌≤◌, ◌<◌, length, replicate}
+use Rattle.std.specs.Prelude.{◌≡◌, refl, ◌≢◌, ◌⊎◌, List, [], ℕ, ◌*◌, ◌/◌, ◌≤◌, ◌<◌, length, replicate, Ok, Err, Result}
 use Rattle.std.proofs.Math.Path.{sym}
 use Rattle.std.proofs.Common.{◌∙◌, ap, subst, ⊎_elim, le_antisymm, arith}
 use Rattle.std.proofs.Math.Logic.{by_cases}
@@ -33,15 +33,12 @@ use Rattle.calls.specs.Calls.{check_of}
 use Rattle.calls.proofs.CallsLaws.{count_length, also_pass}
 use Rattle.refusals.proofs.RefusalLaws.{stop_or_pass}
 use Rattle.refusals.specs.declared.Refusal.{Refusal}
-use Rattle.refusals.specs.declared.Check.TheVariants.{Pass, Stop}
 use Rattle.answers.specs.Answers.{recovery_count}
 use Rattle.answers.specs.declared.Recovery.{Recovery}
 use Rattle.answers.specs.declared.Recovery.TheVariants.{Recovered, Crossed, Loose, Refused}
-use Rattle.answers.specs.declared.Encoding.{Encoding}
-use Rattle.answers.specs.declared.Encoding.TheVariants as encoding
+use Rattle.refusals.specs.Refusals.{Check}
 use Rattle.answers.specs.declared.Reading.{Reading}
 use Rattle.answers.specs.declared.Reading.TheVariants as reading
-use Rattle.answers.specs.declared.Fetching.TheVariants.{Fetched, Refused as Unfetched}
 use Rattle.math.specs.Padded.{padded}
 use Rattle.promises.specs.Promises.{Decides, Recovers, recover_lent, Encodes, Reads, message_lent, Fetches, fetch_check}
 use Rattle.promises.proofs.Building
@@ -58,16 +55,16 @@ pub data OneOf (A B C D : Type 0) : Type 0 where
 -- what each answer of recover says
 module _ (p : Plan) (v m w : List ℕ) (r : Recovery) where
   abbrev pub IsRefused : Type 0
-  IsRefused = (x : Refusal) × (r ≡ Refused x) × (check_of p (recover_lent v m w) m ≡ Stop x)
+  IsRefused = (x : Refusal) × (r ≡ Refused x) × (check_of p (recover_lent v m w) m ≡ Err x)
 
   abbrev pub IsRecovered : Type 0
-  IsRecovered = (r ≡ Recovered) × (check_of p (recover_lent v m w) m ≡ Pass) × Single (Agrees (layout_of p) (erasures (layout_of p) m) v)
+  IsRecovered = (r ≡ Recovered) × (check_of p (recover_lent v m w) m ≡ Ok tt) × Single (Agrees (layout_of p) (erasures (layout_of p) m) v)
 
   abbrev pub IsLoose : Type 0
-  IsLoose = (z : ℕ) × (r ≡ Loose z) × (check_of p (recover_lent v m w) m ≡ Pass) × TwoOrMore (Agrees (layout_of p) (erasures (layout_of p) m) v)
+  IsLoose = (z : ℕ) × (r ≡ Loose z) × (check_of p (recover_lent v m w) m ≡ Ok tt) × TwoOrMore (Agrees (layout_of p) (erasures (layout_of p) m) v)
 
   abbrev pub IsCrossed : Type 0
-  IsCrossed = (z : ℕ) × (r ≡ Crossed z) × (check_of p (recover_lent v m w) m ≡ Pass) × None (Agrees (layout_of p) (erasures (layout_of p) m) v)
+  IsCrossed = (z : ℕ) × (r ≡ Crossed z) × (check_of p (recover_lent v m w) m ≡ Ok tt) × None (Agrees (layout_of p) (erasures (layout_of p) m) v)
 
 -- every call of recover is answered in exactly one of the four ways, each for its own reason
 pub answers_one : (p : Plan) (v m w : List ℕ) (r : Recovery) {v' w' : List ℕ} → Recovers p v m w r v' w' →
@@ -75,7 +72,7 @@ pub answers_one : (p : Plan) (v m w : List ℕ) (r : Recovery) {v' w' : List ℕ
 answers_one p v m w r h = ⊎_elim (λ e. go r e (h.passed e)) (λ s. stopped r s.0 s.1 (h.refused s.0 s.1).0)
     (stop_or_pass (check_of p (recover_lent v m w) m))
   where
-    go : (r : Recovery) {v' w' : List ℕ} → check_of p (recover_lent v m w) m ≡ Pass → Decides (layout_of p) (erasures (layout_of p) m) v r v' w' →
+    go : (r : Recovery) {v' w' : List ℕ} → check_of p (recover_lent v m w) m ≡ Ok tt → Decides (layout_of p) (erasures (layout_of p) m) v r v' w' →
         OneOf (IsRefused p v m w r) (IsRecovered p v m w r) (IsLoose p v m w r) (IsCrossed p v m w r)
     go Recovered e d = the_second (refl, e, d.recovered_when.0 refl)
         (λ q. Building.recovered_not_refused q.1) (λ q. Building.recovered_not_loose q.1) (λ q. Building.recovered_not_crossed q.1)
@@ -85,7 +82,7 @@ answers_one p v m w r h = ⊎_elim (λ e. go r e (h.passed e)) (λ s. stopped r 
         (λ q. Building.crossed_not_refused q.1) (λ q. Building.recovered_not_crossed (sym q.0)) (λ q. Building.loose_not_crossed (sym q.1))
     go (Refused x) e d = absurd (d.not_refused x refl)
 
-    stopped : (r : Recovery) (x : Refusal) → check_of p (recover_lent v m w) m ≡ Stop x → r ≡ Refused x →
+    stopped : (r : Recovery) (x : Refusal) → check_of p (recover_lent v m w) m ≡ Err x → r ≡ Refused x →
         OneOf (IsRefused p v m w r) (IsRecovered p v m w r) (IsLoose p v m w r) (IsCrossed p v m w r)
     stopped r x e f = the_first (x, f, e)
         (λ q. Building.recovered_not_refused (sym q.0 ∙ f)) (λ q. Building.loose_not_refused (sym q.1 ∙ f)) (λ q. Building.crossed_not_refused (sym q.1 ∙ f))
@@ -197,7 +194,7 @@ influences_nothing p v x m w {r} f g e same =
     (a.0 ∙ sym b.0, a.2 ∙ sym b.2, λ q. absurd (Building.recovered_not_refused (sym q ∙ a.0))))
     (stop_or_pass (check_of p (recover_lent v m w) m))
 
-loose_passed : (p : Plan) (v m w : List ℕ) {z : ℕ} {v' w' : List ℕ} → Recovers p v m w (Loose z) v' w' → check_of p (recover_lent v m w) m ≡ Pass
+loose_passed : (p : Plan) (v m w : List ℕ) {z : ℕ} {v' w' : List ℕ} → Recovers p v m w (Loose z) v' w' → check_of p (recover_lent v m w) m ≡ Ok tt
 loose_passed p v m w f =
     ⊎_elim (λ e. e) (λ s. absurd (Building.loose_not_refused (f.refused s.0 s.1).0)) (stop_or_pass (check_of p (recover_lent v m w) m))
 
@@ -236,12 +233,12 @@ pub record LoosePair (p : Plan) (i j : ℕ) : Type 0 where
   pub no_spare : NoSpare (layout_of p) marks
   pub inside : (c : ℕ) → c ∈ erasures (layout_of p) marks → (c / p.t ≡ i) ⊎ (c / p.t ≡ j)
   pub many : length (erasures (layout_of p) marks) ≡ pair_number (layout_of p) i j
-  pub passes : (w : List ℕ) → length w ≡ 2 * p.t → check_of p (recover_lent (replicate (p.n * p.t) 0) marks w) marks ≡ Pass
+  pub passes : (w : List ℕ) → length w ≡ 2 * p.t → check_of p (recover_lent (replicate (p.n * p.t) 0) marks w) marks ≡ Ok tt
   pub loose : (w : List ℕ) {r : Recovery} {v' w' : List ℕ} → Recovers p (replicate (p.n * p.t) 0) marks w r v' w' →
-      check_of p (recover_lent (replicate (p.n * p.t) 0) marks w) marks ≡ Pass → (z : ℕ) × (r ≡ Loose z)
+      check_of p (recover_lent (replicate (p.n * p.t) 0) marks w) marks ≡ Ok tt → (z : ℕ) × (r ≡ Loose z)
 
 -- some 2t / gcd marks inside any two sections are loose on the zero block
-pub pair_some_loose : (p : Plan) → plan_check p ≡ Pass → (i j : ℕ) → i < p.n → j < p.n → i ≢ j → LoosePair p i j
+pub pair_some_loose : (p : Plan) → plan_check p ≡ Ok tt → (i j : ℕ) → i < p.n → j < p.n → i ≢ j → LoosePair p i j
 unfolding layout_of layout
 pair_some_loose p good i j h g n =
     let L = layout_of p in
@@ -266,14 +263,14 @@ unfolding layout_of layout
 all_sections p j h = ∈_up_to h
 
 -- Document 02, N4: "the check places can always be worked out, for every accepted plan and all data": exactly one codeword carries the data
-pub sealable : (p : Plan) → plan_check p ≡ Pass → (d : List ℕ) → length d ≡ message_count (layout_of p) → ((i : ℕ) → at d i < 256) →
+pub sealable : (p : Plan) → plan_check p ≡ Ok tt → (d : List ℕ) → length d ≡ message_count (layout_of p) → ((i : ℕ) → at d i < 256) →
     Single (λ x. Carries (layout_of p) x d)
 sealable p good d long bytes =
     carried_once (layout_of p) (good_valid p good) (all_sections p) (some_section p good) d (long ∙ sym (message_count_of_lem p)) bytes
 
 -- reading an encoded block gives the message back
-pub read_of_encoded : (p : Plan) (d v e : List ℕ) {v' e' : List ℕ} {r : Reading} → Encodes p d v encoding.Encoded v' → Reads p v' e r e' →
-    check_of p (message_lent d v) [] ≡ Pass → check_of p (message_lent e v') [] ≡ Pass → (r ≡ reading.Read) × (e' ≡ d)
+pub read_of_encoded : (p : Plan) (d v e : List ℕ) {v' e' : List ℕ} {r : Reading} → Encodes p d v (Ok tt) v' → Reads p v' e r e' →
+    check_of p (message_lent d v) [] ≡ Ok tt → check_of p (message_lent e v') [] ≡ Ok tt → (r ≡ reading.Read) × (e' ≡ d)
 read_of_encoded p d v e {v'} {e'} f g pass pass' =
     let a = f.encoded_to pass in
     let q = (g.read_when pass').1 a.codeword in
@@ -281,20 +278,20 @@ read_of_encoded p d v e {v'} {e'} f g pass pass' =
     (q, one.only_one e' (g.read_to pass' q) ∙ sym (one.only_one d a))
 
 -- encoding what was read gives the block back
-pub encode_of_read : (p : Plan) (v d x : List ℕ) {d' x' : List ℕ} {r : Encoding} → Reads p v d reading.Read d' → Encodes p d' x r x' →
-    check_of p (message_lent d v) [] ≡ Pass → check_of p (message_lent d' x) [] ≡ Pass → (r ≡ encoding.Encoded) × (x' ≡ v)
+pub encode_of_read : (p : Plan) (v d x : List ℕ) {d' x' : List ℕ} {r : Check} → Reads p v d reading.Read d' → Encodes p d' x r x' →
+    check_of p (message_lent d v) [] ≡ Ok tt → check_of p (message_lent d' x) [] ≡ Ok tt → (r ≡ Ok tt) × (x' ≡ v)
 encode_of_read p v d x f g pass pass' = (g.encoded pass', sym (g.only pass' v (f.read_to pass refl)))
 
 -- an answer that lists comes of a call that passes
-fetched_passed : (p : Plan) (m l : List ℕ) {z : ℕ} {l' : List ℕ} → Fetches p m l (Fetched z) l' → fetch_check p m l ≡ Pass
+fetched_passed : (p : Plan) (m l : List ℕ) {z : ℕ} {l' : List ℕ} → Fetches p m l (Ok z) l' → fetch_check p m l ≡ Ok tt
 fetched_passed p m l f =
     ⊎_elim (λ e. e) (λ s. absurd (fetched_not_refused (f.refused s.0 s.1).0)) (stop_or_pass (fetch_check p m l))
   where
-    fetched_not_refused : {z : ℕ} {x : Refusal} → Fetched z ≡ Unfetched x → ⊥
+    fetched_not_refused : {z : ℕ} {x : Refusal} → Ok z ≡ Err x → ⊥
     fetched_not_refused e = Building.zero_one (cc)
 
 -- "Taking the list's marks away must leave marks that hold no ring": a block that has no marks but those of m that the list l' leaves is never loose, whatever its symbols
-pub fetched_never_loose : (p : Plan) (v m l m' w : List ℕ) {z : ℕ} {l' : List ℕ} → Fetches p m l (Fetched z) l' →
+pub fetched_never_loose : (p : Plan) (v m l m' w : List ℕ) {z : ℕ} {l' : List ℕ} → Fetches p m l (Ok z) l' →
     ((c : ℕ) → mark m' c ≡ 1 → (mark m c ≡ 1) × (mark l' c ≡ 0)) →
     {r : Recovery} {v' w' : List ℕ} → Recovers p v m' w r v' w' → (k : ℕ) → r ≢ Loose k
 unfolding fetch_check

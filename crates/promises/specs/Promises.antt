@@ -1,6 +1,6 @@
 -- What recover, encode, message_of and fetch promise: a field for each sentence of demands 2 and 3, of 01's "Recovery" and "Sealing", and of 02's N2 and N4.
 -- p the plan, v the block, m the marks, w the witness list, d the message, l the fetch list, each as lent; r the answer; v', w', .. the buffers as they are left.
-use Rattle.std.specs.Prelude.{◌≡◌, ◌↔◌, ◌≢◌, List, [], ℕ, ◌-◌, ◌*◌, ◌≤◌, eqb, length, replicate}
+use Rattle.std.specs.Prelude.{◌≡◌, ◌↔◌, ◌≢◌, List, [], ℕ, ◌-◌, ◌*◌, ◌≤◌, eqb, length, replicate, Some, Ok, Err, Result}
 use Rattle.math.specs.Members.{◌∈◌}
 use Rattle.math.specs.Padded.{padded}
 use Rattle.plan.specs.Layout.{Layout}
@@ -13,23 +13,16 @@ use Rattle.code.specs.Cycles.{Cycle}
 use Rattle.code.specs.Components.{Inconsistent}
 use Rattle.code.specs.Messages.{Carries}
 use Rattle.code.specs.FetchList.{FetchBits}
-use Rattle.calls.specs.Calls.{check_of, also_lent, count_lent}
-use Rattle.calls.specs.declared.Part.TheVariants.{Unlent, Of}
+use Rattle.calls.specs.Calls.{check_of, also_lent, count_lent, unlent}
 use Rattle.calls.specs.declared.Lent.{Lent}
-use Rattle.refusals.specs.Refusals.{number_of, check_number}
+use Rattle.refusals.specs.Refusals.{number_of, check_number, count_value, Check}
 use Rattle.refusals.specs.declared.Refusal.{Refusal}
 use Rattle.refusals.specs.declared.Refusal.TheVariants as refusal
-use Rattle.refusals.specs.declared.Check.{Check}
-use Rattle.refusals.specs.declared.Check.TheVariants.{Pass, Stop}
-use Rattle.answers.specs.Answers.{recovery_number, recovery_count, encoding_number, reading_number, fetching_number, fetching_count}
+use Rattle.answers.specs.Answers.{recovery_number, recovery_count, reading_number}
 use Rattle.answers.specs.declared.Recovery.{Recovery}
 use Rattle.answers.specs.declared.Recovery.TheVariants.{Recovered, Crossed, Loose, Refused}
-use Rattle.answers.specs.declared.Encoding.{Encoding}
-use Rattle.answers.specs.declared.Encoding.TheVariants as encoding
 use Rattle.answers.specs.declared.Reading.{Reading}
 use Rattle.answers.specs.declared.Reading.TheVariants as reading
-use Rattle.answers.specs.declared.Fetching.{Fetching}
-use Rattle.answers.specs.declared.Fetching.TheVariants as fetching
 
 -- 01's number of recover's answer: success is 0, crossed 5, loose 6, each in its case and in no other
 pub record Numbered (L : Layout) (E v : List ℕ) (number : ℕ) : Type 0 where
@@ -65,12 +58,12 @@ pub record Decides (L : Layout) (E v : List ℕ) (r : Recovery) (v' w' : List �
 
 -- what recover is lent
 unfoldable pub recover_lent : List ℕ → List ℕ → List ℕ → Lent
-recover_lent v m w = record { block = Of (length v); marks = Of (length m); witness = Of (length w); message = Unlent }
+recover_lent v m w = record { block = Some (length v); marks = Some (length m); witness = Some (length w); message = unlent }
 
 -- recover: refusals 1 to 4 leave everything as it was; otherwise demand 3. (The marks are only read.)
 pub record Recovers (p : Plan) (v m w : List ℕ) (r : Recovery) (v' w' : List ℕ) : Type 0 where
-  pub refused : (x : Refusal) → check_of p (recover_lent v m w) m ≡ Stop x → (r ≡ Refused x) × (v' ≡ v) × (w' ≡ w)
-  pub passed : check_of p (recover_lent v m w) m ≡ Pass → Decides (layout_of p) (erasures (layout_of p) m) v r v' w'
+  pub refused : (x : Refusal) → check_of p (recover_lent v m w) m ≡ Err x → (r ≡ Refused x) × (v' ≡ v) × (w' ≡ w)
+  pub passed : check_of p (recover_lent v m w) m ≡ Ok tt → Decides (layout_of p) (erasures (layout_of p) m) v r v' w'
 
 -- 01's number of message_of's answer: success is 0
 abbrev pub ReadBy : Plan → List ℕ → ℕ → Type 0
@@ -78,34 +71,34 @@ ReadBy p v number = (number ≡ 0) ↔ Codeword (layout_of p) v
 
 -- what encode and message_of are lent
 unfoldable pub message_lent : List ℕ → List ℕ → Lent
-message_lent d v = record { block = Of (length v); marks = Unlent; witness = Unlent; message = Of (length d) }
+message_lent d v = record { block = Some (length v); marks = unlent; witness = unlent; message = Some (length d) }
 
 -- encode: "Sealing gives the one codeword that carries the data"; document 02, N4: "the check places can always be worked out", so a call that nothing refuses is done
-pub record Encodes (p : Plan) (d v : List ℕ) (r : Encoding) (v' : List ℕ) : Type 0 where
-  pub refused : (x : Refusal) → check_of p (message_lent d v) [] ≡ Stop x → (r ≡ encoding.Refused x) × (v' ≡ v)
-  pub encoded : check_of p (message_lent d v) [] ≡ Pass → r ≡ encoding.Encoded
-  pub encoded_to : check_of p (message_lent d v) [] ≡ Pass → Carries (layout_of p) v' d
-  pub only : check_of p (message_lent d v) [] ≡ Pass → (x : List ℕ) → Carries (layout_of p) x d → x ≡ v'
-  pub number : encoding_number r ≡ check_number (check_of p (message_lent d v) [])
+pub record Encodes (p : Plan) (d v : List ℕ) (r : Check) (v' : List ℕ) : Type 0 where
+  pub refused : (x : Refusal) → check_of p (message_lent d v) [] ≡ Err x → (r ≡ Err x) × (v' ≡ v)
+  pub encoded : check_of p (message_lent d v) [] ≡ Ok tt → r ≡ Ok tt
+  pub encoded_to : check_of p (message_lent d v) [] ≡ Ok tt → Carries (layout_of p) v' d
+  pub only : check_of p (message_lent d v) [] ≡ Ok tt → (x : List ℕ) → Carries (layout_of p) x d → x ≡ v'
+  pub number : check_number r ≡ check_number (check_of p (message_lent d v) [])
 
 -- message_of: "every codeword is carried by one row of data, which reading hands back"; "a block that is no codeword is refused as crossed,
 -- with no list, and the data buffer stays"
 pub record Reads (p : Plan) (v d : List ℕ) (r : Reading) (d' : List ℕ) : Type 0 where
-  pub refused : (x : Refusal) → check_of p (message_lent d v) [] ≡ Stop x → (r ≡ reading.Refused x) × (d' ≡ d)
-  pub read_when : check_of p (message_lent d v) [] ≡ Pass → (r ≡ reading.Read) ↔ Codeword (layout_of p) v
-  pub read_to : check_of p (message_lent d v) [] ≡ Pass → r ≡ reading.Read → Carries (layout_of p) v d'
-  pub crossed_when : check_of p (message_lent d v) [] ≡ Pass → (r ≡ reading.Crossed) ↔ (¬ (Codeword (layout_of p) v))
+  pub refused : (x : Refusal) → check_of p (message_lent d v) [] ≡ Err x → (r ≡ reading.Refused x) × (d' ≡ d)
+  pub read_when : check_of p (message_lent d v) [] ≡ Ok tt → (r ≡ reading.Read) ↔ Codeword (layout_of p) v
+  pub read_to : check_of p (message_lent d v) [] ≡ Ok tt → r ≡ reading.Read → Carries (layout_of p) v d'
+  pub crossed_when : check_of p (message_lent d v) [] ≡ Ok tt → (r ≡ reading.Crossed) ↔ (¬ (Codeword (layout_of p) v))
   pub crossed_keeps : r ≡ reading.Crossed → d' ≡ d
-  pub not_refused : check_of p (message_lent d v) [] ≡ Pass → (x : Refusal) → r ≢ reading.Refused x
-  pub number : check_of p (message_lent d v) [] ≡ Pass → ReadBy p v (reading_number r)
+  pub not_refused : check_of p (message_lent d v) [] ≡ Ok tt → (x : Refusal) → r ≢ reading.Refused x
+  pub number : check_of p (message_lent d v) [] ≡ Ok tt → ReadBy p v (reading_number r)
 
 -- what refuses fetch: the plan, the length of the marks or of the list (each the plan's mark bytes), a spare bit of the marks. What stands in the list as lent is not judged.
 unfoldable pub fetch_check : Plan → List ℕ → List ℕ → Check
 fetch_check p m l = also_lent (check_of p (count_lent m) m) (eqb (length l) (mark_bytes (layout_of p)))
 
 -- fetch: "The list comes back as mark bits of its own, as long as the marks; a refusal leaves them". (The marks are only read, and no symbol is lent.)
-pub record Fetches (p : Plan) (m l : List ℕ) (r : Fetching) (l' : List ℕ) : Type 0 where
-  pub refused : (x : Refusal) → fetch_check p m l ≡ Stop x → (r ≡ fetching.Refused x) × (l' ≡ l)
-  pub fetched : fetch_check p m l ≡ Pass → (z : ℕ) × (r ≡ fetching.Fetched z)
-  pub listed : fetch_check p m l ≡ Pass → FetchBits (layout_of p) (erasures (layout_of p) m) (length m) l' (fetching_count r)
-  pub number : fetching_number r ≡ check_number (fetch_check p m l)
+pub record Fetches (p : Plan) (m l : List ℕ) (r : Result ℕ Refusal) (l' : List ℕ) : Type 0 where
+  pub refused : (x : Refusal) → fetch_check p m l ≡ Err x → (r ≡ Err x) × (l' ≡ l)
+  pub fetched : fetch_check p m l ≡ Ok tt → (z : ℕ) × (r ≡ Ok z)
+  pub listed : fetch_check p m l ≡ Ok tt → FetchBits (layout_of p) (erasures (layout_of p) m) (length m) l' (count_value r)
+  pub number : check_number r ≡ check_number (fetch_check p m l)

@@ -5,17 +5,24 @@
 ghost use Rattle.std.specs.Prelude.{◌≡◌, ◌≤◌, length};
 ghost use Rattle.putting.specs.Putting.{Put, Fits, Placed};
 
-use act::Held;
-use slices::copy_bytes;
+use plan::Plan;
 use turns::{Step, Turn};
 
-// After a turn: the plan, the place in the job, the length of the sheet so far; phase 0: more may follow, 1: closed, 2: the sheet is full.
+// Going: more may follow. Closed: the last line is on the sheet. Full: the sheet has no room for the line.
+#[derive(Clone, Copy, PartialEq, Eq)]
+pub enum Phase {
+    Going,
+    Closed,
+    Full,
+}
+
+// After a turn: the plan, the place in the job, the length of the sheet so far.
 #[derive(Clone, Copy)]
 pub struct Reached {
-    pub held: Held,
+    pub held: Option<Plan>,
     pub at: usize,
     pub to: usize,
-    pub phase: u8,
+    pub phase: Phase,
 }
 
 // After a command more may follow; the line of any other turn is the last. A turn without a line puts nothing, and the job goes no further.
@@ -26,33 +33,33 @@ pub fn put_turn(step: Step, at: usize, line: &[u8], sheet: &mut [u8], to: usize)
     let held = step.held;
     let turn = step.turn;
     match turn {
-        Turn::On(used, count) => put_line(held, at + used, line, count, sheet, to, 0),
-        Turn::End(count) => put_line(held, at, line, count, sheet, to, 1),
-        Turn::Stop(_, count) => put_line(held, at, line, count, sheet, to, 1),
+        Turn::On(used, count) => put_line(held, at + used, line, count, sheet, to, Phase::Going),
+        Turn::End(count) => put_line(held, at, line, count, sheet, to, Phase::Closed),
+        Turn::Stop(_, count) => put_line(held, at, line, count, sheet, to, Phase::Closed),
         Turn::Wait => Reached {
             held,
             at,
             to,
-            phase: 2,
+            phase: Phase::Full,
         },
         Turn::Bad(_) => Reached {
             held,
             at,
             to,
-            phase: 2,
+            phase: Phase::Full,
         },
     }
 }
 
 // The line is put on the sheet, if it fits.
 fn put_line(
-    held: Held,
+    held: Option<Plan>,
     at: usize,
     line: &[u8],
     count: usize,
     sheet: &mut [u8],
     to: usize,
-    phase: u8,
+    phase: Phase,
 ) -> Reached
     requires { (count ≤ length line.now) × (to ≤ length sheet.old) }
     ensures { (result.held ≡ held) × (result.at ≡ at) × Put line.now count sheet.old to phase sheet.new result.to result.phase }
@@ -62,11 +69,11 @@ fn put_line(
             held,
             at,
             to,
-            phase: 2,
+            phase: Phase::Full,
         };
     }
     let end = to + count;
-    copy_bytes(&line[..count], &mut sheet[to..end]);
+    sheet[to..end].copy_from_slice(&line[..count]);
     Reached {
         held,
         at,

@@ -3,7 +3,7 @@
 -- Main results: entered (a row enters or not), enters_same and enters_longer (what stood there stays), room (there is room for it), looks (a row more is looked at), widened (rows that need not be), sweep_more and
 -- sweep_none (the scan of all rows), passed and taken (the head moves on).
 use Rattle.std.specs.Prelude.{◌≡◌, refl, ◌≢◌, true, List, map, ℕ, ◌+◌, ◌-◌, ◌*◌, ◌/◌, ◌≤◌, ◌<◌, eqb, length, set, take, drop}
-use Rattle.std.proofs.Common.{sym, ◌∙◌, subst, le_antisymm, length-set, eq-eqb, ne_eqb, get_or-set_same, get_or-set_other}
+use Rattle.std.proofs.Common.{sym, ◌∙◌, subst, length-set, eq-eqb, ne_eqb, get_or-set_same, get_or-set_other}
 use Rattle.std.proofs.Math.Path.{ap}
 use Rattle.std.proofs.Math.Logic.{by_cases}
 use Rattle.std.proofs.Math.Decide.{ℕ_discrete, dec_lt}
@@ -209,9 +209,6 @@ module _ {tally queue : List ℕ} {i j tail : ℕ} (w : Sweepable tally queue i 
     queue_long = rw (length-set queue tail i) w.queue_long;
     few = w.few;
   })
-
-  pub sweep_end : j ≤ i → Queued tally queue (Below j) 0 tail
-  sweep_end h = subst (λ i. Queued tally queue (Below i) 0 tail) (le_antisymm w.order h) w.queued
 
   -- rows of which none has exactly one left are passed at once
   pub sweep_none : all_zero (map one (take (j - i) (drop i tally))) ≡ true → Queued tally queue (Below j) 0 tail

@@ -12,29 +12,37 @@ use plan::Row;
 use tables::lists::put_row;
 use tables::rows::TALLY_UNIT;
 
-// A row enters at the tail if the number that it has left is exactly one; gives the new tail. By a branch: in chains the next row nearly always
-// enters, and the processor runs ahead.
-pub fn enter(queue: &mut [u16], tail: usize, row: Row, rest: u16) -> usize
-    requires { rest ≡ 1 → tail < length queue.old }
-    ensures { Enters queue.old tail row.0 rest queue.new result }
-{
-    if rest != 1 {
-        return tail;
-    }
-    put_row(&mut queue[..], tail, row);
-    tail + 1
+// How a row enters the queue: at the tail, if the number that it has left is exactly one; gives the new tail.
+pub trait Enter {
+    fn enter(queue: &mut [u16], tail: usize, row: Row, rest: u16) -> usize
+        requires { rest ≡ 1 → tail < length queue.old }
+        ensures { Enters queue.old tail row.0 rest queue.new result };
 }
 
-// The same with no branch on what is left, where that would be hard to foresee: the row is stored in any case.
-pub fn enter_stored(queue: &mut [u16], tail: usize, row: Row, rest: u16) -> usize
-    requires { rest ≡ 1 → tail < length queue.old }
-    ensures { Enters queue.old tail row.0 rest queue.new result }
-{
-    if queue.len() <= tail {
-        return tail;
+// By a branch: in chains the next row nearly always enters, and the processor runs ahead.
+pub struct Branching;
+
+impl Enter for Branching {
+    fn enter(queue: &mut [u16], tail: usize, row: Row, rest: u16) -> usize {
+        if rest != 1 {
+            return tail;
+        }
+        put_row(queue, tail, row);
+        tail + 1
     }
-    put_row(&mut queue[..], tail, row);
-    tail + (rest == 1) as usize
+}
+
+// With no branch on what is left, where that would be hard to foresee: the row is stored in any case.
+pub struct Storing;
+
+impl Enter for Storing {
+    fn enter(queue: &mut [u16], tail: usize, row: Row, rest: u16) -> usize {
+        if queue.len() <= tail {
+            return tail;
+        }
+        put_row(queue, tail, row);
+        tail + usize::from(rest == 1)
+    }
 }
 
 // The rows from `from` up to `to` enter if they have exactly one left, by their tallies over the unit. Each is stored at the tail, and the tail moves on if it enters:
@@ -44,11 +52,9 @@ fn sweep(tally: &[u16], queue: &mut [u16], from: usize, to: usize, tail: usize) 
     ensures { Queued tally.now queue.new (Below to) 0 result }
 {
     let mut end = tail;
-    let mut r = from;
-    while r < to {
-        put_row(&mut queue[..], end, Row(r as u16));
-        end += (tally[r] / TALLY_UNIT == 1) as usize;
-        r += 1;
+    for r in from..to {
+        put_row(queue, end, Row(r as u16));
+        end += usize::from(tally[r] / TALLY_UNIT == 1);
     }
     end
 }
@@ -62,7 +68,7 @@ fn sweep_group(tally: &[u16], queue: &mut [u16], from: usize, tail: usize) -> us
     if no_ones(&tally[from..to]) {
         return tail;
     }
-    sweep(tally, &mut queue[..], from, to, tail)
+    sweep(tally, queue, from, to, tail)
 }
 
 // Every row with exactly one left enters, in rising order; gives the tail.
@@ -71,11 +77,10 @@ pub fn seed(t: usize, tally: &[u16], queue: &mut [u16]) -> usize
     ensures { Queued tally.now queue.new (Below (2 * t)) 0 result }
 {
     let rows = 2 * t;
+    let groups = rows / 8;
     let mut tail = 0;
-    let mut r = 0;
-    while r + 8 <= rows {
-        tail = sweep_group(tally, &mut queue[..], r, tail);
-        r += 8;
+    for g in 0..groups {
+        tail = sweep_group(tally, queue, 8 * g, tail);
     }
-    sweep(tally, &mut queue[..], r, rows, tail)
+    sweep(tally, queue, 8 * groups, rows, tail)
 }

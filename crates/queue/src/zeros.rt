@@ -9,11 +9,9 @@ use tables::rows::TALLY_UNIT;
 pub(crate) fn no_ones(l: &[u16]) -> bool
     ensures { result ≡ all_zero (map one l.now) }
 {
-    let mut any: u16 = 0;
-    let mut i = 0;
-    while i < l.len() {
-        any = any | (l[i] / TALLY_UNIT == 1) as u16;
-        i += 1;
+    let mut any = 0;
+    for x in l {
+        any |= u16::from(*x / TALLY_UNIT == 1);
     }
     any == 0
 }

@@ -1,15 +1,14 @@
 -- The commands that come by the thousand, 03, 04, 05 and 08, performed without the plan: only the number of its places counts.
 -- Main definitions: Quiet, Shows, Quick.
-use Rattle.std.specs.Prelude.{◌≡◌, true, List, [], ℕ, ◌*◌, ◌≤◌, length}
+use Rattle.std.specs.Prelude.{is_some, ◌≡◌, true, List, [], ℕ, ◌*◌, ◌≤◌, length}
 use Rattle.pieces.specs.Pieces.{Appends}
-use Rattle.act.specs.Acts.{Kept}
-use Rattle.act.specs.declared.Held.{Held}
+use Rattle.act.specs.Acts.{Kept, Held, held_plan}
 use Rattle.one_sheet.specs.Performed.{Performed}
 
 -- a plan of this many places is held
 pub record Places (places : ℕ) (h : Held) (v m : List ℕ) : Type 0 where
-  pub planned : h.planned ≡ true
-  pub of : h.plan.n * h.plan.t ≡ places
+  pub planned : is_some h ≡ true
+  pub of : (held_plan h).n * (held_plan h).t ≡ places
   pub kept : Kept h v m
 
 -- commands that write nothing

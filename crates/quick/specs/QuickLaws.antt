@@ -1,13 +1,12 @@
 -- The commands one by one, and several of them.
 -- Main results: quiet_none, quiet_both, symbol_performed, mark_performed, run_performed; appends_room, shows_none, shows_both, show_performed; quick_none, quick_both, quick_less.
-use Rattle.std.specs.Prelude.{◌≡◌, Bool, true, cond, List, [], ◌∷◌, ◌++◌, ℕ, ◌+◌, ◌-◌, ◌*◌, ◌≤◌, ◌<◌, ltb, get_or, set, take, drop}
+use Rattle.std.specs.Prelude.{◌≡◌, Bool, true, cond, List, [], ◌∷◌, ◌++◌, ℕ, ◌+◌, ◌-◌, ◌*◌, ◌≤◌, ◌<◌, ltb, get_or, set, take, drop, Ok}
 use Rattle.std.proofs.Math.Path.{refl, sym}
 use Rattle.std.proofs.Common.{◌∙◌, ap, arith, length-take, length-drop, length-append, get_or-drop}
 use Rattle.std.proofs.Math.Logic.{by_cases}
 use Rattle.std.proofs.Math.Decide.{dec_lt}
 use Rattle.std.proofs.Math.ListN.{length, length-set}
 use borrow.Author.Tests.{lt-ltb, le-ltb, le-leb}
-use Rattle.refusals.specs.declared.Check.TheVariants.{Pass}
 use Rattle.pieces.specs.Pieces.{Appends}
 use Rattle.pieces.specs.PiecesLaws.{appends_none, appends_both}
 use Rattle.commands.specs.Commands.{size_of, one, two, command_of, parsed}
@@ -19,9 +18,8 @@ use Rattle.lines.specs.Lines.{line, symbol_word}
 use Rattle.bits.specs.Bits.{Marked}
 use Rattle.bits.specs.MarkedLaws.{Bytes}
 use Rattle.state.specs.Refusing.{early, refusal_of}
-use Rattle.act.specs.Acts.{state_of, Acts}
+use Rattle.act.specs.Acts.{state_of, Acts, Held, held_plan}
 use Rattle.act.proofs.ActLaws.{symbol_set, one_marked, run_marked, shown}
-use Rattle.act.specs.declared.Held.{Held}
 use Rattle.one_sheet.specs.Performed.{none}
 use Rattle.one_sheet.proofs.PerformedLaws.{performed_one, performed_both}
 use Rattle.quick.specs.Quick.{Places, Quiet, Shows, Quick}
@@ -48,21 +46,21 @@ module _ (b : List ℕ) (at : ℕ) where
 -- ---- what refuses none of them
 
 module _ (places : ℕ) (h : Held) (v m : List ℕ) (p : Places places h v m) where
-  set_passes : (c x : ℕ) → c < places → refusal_of (state_of h v m) (SetSymbol c x) ≡ Pass
+  set_passes : (c x : ℕ) → c < places → refusal_of (state_of h v m) (SetSymbol c x) ≡ Ok tt
   unfolding refusal_of state_of early
-  set_passes c x l = rw (p.planned, lt-ltb c (h.plan.n * h.plan.t) (omega (arith, p.of)))
+  set_passes c x l = rw (p.planned, lt-ltb c ((held_plan h).n * (held_plan h).t) (omega (arith, p.of)))
 
-  mark_passes : (c : ℕ) → c < places → refusal_of (state_of h v m) (MarkOne c) ≡ Pass
+  mark_passes : (c : ℕ) → c < places → refusal_of (state_of h v m) (MarkOne c) ≡ Ok tt
   unfolding refusal_of state_of early
-  mark_passes c l = rw (p.planned, lt-ltb c (h.plan.n * h.plan.t) (omega (arith, p.of)))
+  mark_passes c l = rw (p.planned, lt-ltb c ((held_plan h).n * (held_plan h).t) (omega (arith, p.of)))
 
-  run_passes : (c k : ℕ) → c + k ≤ places → refusal_of (state_of h v m) (MarkRun c k) ≡ Pass
+  run_passes : (c k : ℕ) → c + k ≤ places → refusal_of (state_of h v m) (MarkRun c k) ≡ Ok tt
   unfolding refusal_of state_of early
-  run_passes c k l = rw (p.planned, le-leb (c + k) (h.plan.n * h.plan.t) (omega (arith, p.of)))
+  run_passes c k l = rw (p.planned, le-leb (c + k) ((held_plan h).n * (held_plan h).t) (omega (arith, p.of)))
 
-  show_passes : (c : ℕ) → c < places → refusal_of (state_of h v m) (Show c) ≡ Pass
+  show_passes : (c : ℕ) → c < places → refusal_of (state_of h v m) (Show c) ≡ Ok tt
   unfolding refusal_of state_of early
-  show_passes c l = rw (p.planned, lt-ltb c (h.plan.n * h.plan.t) (omega (arith, p.of)))
+  show_passes c l = rw (p.planned, lt-ltb c ((held_plan h).n * (held_plan h).t) (omega (arith, p.of)))
 
 -- ---- commands that write nothing
 
@@ -81,7 +79,7 @@ quiet_both x y = record {
 
 -- a command of this size that acts so on every such plan
 quiet_one : (places : ℕ) (b v m : List ℕ) (at size : ℕ) (c : Command) {v' m' : List ℕ} → parsed (drop at b) ≡ Whole c → size ≡ size_of (one (drop at b) 0) → at + size ≤ length b →
-    ((h : Held) → Places places h v m → (refusal_of (state_of h v m) c ≡ Pass) × Acts c h v m [] h v' m') → length v' ≡ length v → length m' ≡ length m →
+    ((h : Held) → Places places h v m → (refusal_of (state_of h v m) c ≡ Ok tt) × Acts c h v m [] h v' m') → length v' ≡ length v → length m' ≡ length m →
     Quiet places b v m at v' m' (at + size)
 quiet_one places b v m at size c e f l a lv lm = record {
   went = λ h p. let x = a h p in (performed_one c size e x.0 x.1 f, record { planned = p.planned; of = p.of; kept = x.1.kept });

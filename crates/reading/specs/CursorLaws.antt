@@ -1,7 +1,7 @@
 -- The laws of the cursor: what is at hand after it is carried over.
--- Main results: drop_take, hand_carried; carried_none, carried_some; Moved and its steps.
-use Rattle.std.specs.Prelude.{◌≡◌, refl, List, [], ◌∷◌, ◌++◌, ℕ, zero, suc, ◌+◌, ◌-◌, ◌≤◌, ◌<◌, min, length, get_or, set, take, drop}
-use Rattle.std.proofs.Common.{sym, ◌∙◌, ap, add-one, arith, length-take, length-drop, length-set, take-append-drop, take_all, take_at, take-suc, take-suc-set, get_or-drop, get_or-set_other, ext_get_or, length-take-le}
+-- Main results: drop_take, hand_carried; carried_none, carried_some.
+use Rattle.std.specs.Prelude.{◌≡◌, refl, List, [], ◌∷◌, ◌++◌, ℕ, zero, suc, ◌-◌, ◌≤◌, ◌<◌, min, length, take, drop}
+use Rattle.std.proofs.Common.{sym, ◌∙◌, ap, arith, length-take, length-drop, take_all, take_at, length-take-le}
 use Rattle.std.proofs.Math.Logic.{by_cases}
 use Rattle.std.proofs.Math.Decide.{dec_le}
 use Rattle.std.proofs.Math.Seq.{take-nil}
@@ -52,40 +52,3 @@ carried_some c buffer e f h {buffer'} g = rw (← same, long) (refl, g)
 
     long : length (take (e - c.at) (drop c.at buffer)) ≡ e - c.at
     long = length-take-le (e - c.at) (drop c.at buffer) (omega (arith, length-drop c.at buffer))
-
--- ---- moving to the front
-
--- k bytes from `from` on stand at the front, and the buffer is as it was from there on
-pub record Moved (buffer : List ℕ) (from to i k : ℕ) (buffer' : List ℕ) : Type 0 where
-  pub place : i ≡ from + k
-  pub within : i ≤ to
-  pub long : length buffer' ≡ length buffer
-  pub front : take k buffer' ≡ take k (drop from buffer)
-  pub rest : (j : ℕ) → k ≤ j → get_or buffer' j 0 ≡ get_or buffer j 0
-
-pub moved_start : (buffer : List ℕ) (from to : ℕ) → from ≤ to → Moved buffer from to from 0 buffer
-moved_start buffer from to h = record { place = omega arith; within = h; long = refl; front = refl; rest = λ j _. refl }
-
-pub moved_step : {buffer : List ℕ} {from to i k : ℕ} {buffer' : List ℕ} → Moved buffer from to i k buffer' → i < to → to ≤ length buffer →
-    Moved buffer from to (i + 1) (k + 1) (set buffer' k (get_or buffer' i 0))
-moved_step {buffer} {from} {to} {i} {k} {buffer'} c less fit =
-    let x : get_or buffer' i 0 ≡ get_or (drop from buffer) k 0 = c.rest i (omega (arith, c.place)) ∙ ap (λ j. get_or buffer j 0) c.place ∙ sym (get_or-drop from buffer k 0) in
-    let short : k < length (drop from buffer) = rw (length-drop from buffer) (omega (arith, c.place)) in
-    record {
-      place = omega (arith, c.place);
-      within = omega arith;
-      long = length-set buffer' k (get_or buffer' i 0) ∙ c.long;
-      front = rw (add-one k) (take-suc-set buffer' k (get_or buffer' i 0) (omega (arith, c.place, c.long)) ∙ ap (λ y. y ++ (get_or buffer' i 0 ∷ [])) c.front
-          ∙ ap (λ y. take k (drop from buffer) ++ (y ∷ [])) x ∙ sym (take-suc (drop from buffer) k 0 short));
-      rest = λ j h. get_or-set_other buffer' k j (get_or buffer' i 0) 0 (λ q. omega arith) ∙ c.rest j (omega arith);
-    }
-
-pub moved_all : {buffer : List ℕ} {from to i k : ℕ} {buffer' : List ℕ} → Moved buffer from to i k buffer' → to ≤ i →
-    buffer' ≡ take (to - from) (drop from buffer) ++ drop (to - from) buffer
-moved_all {buffer} {from} {to} {i} {k} {buffer'} c done =
-    let e : k ≡ to - from = omega (arith, c.place, c.within) in
-    let past : drop k buffer' ≡ drop k buffer = ext_get_or 0 (drop k buffer') (drop k buffer)
-    (length-drop k buffer' ∙ ap (λ n. n - k) c.long ∙ sym (length-drop k buffer))
-    (λ j _. get_or-drop k buffer' j 0 ∙ c.rest (k + j) (omega arith) ∙ sym (get_or-drop k buffer j 0)) in
-    sym (take-append-drop k buffer') ∙ ap (λ x. x ++ drop k buffer') c.front ∙ ap (λ x. take k (drop from buffer) ++ x) past
-    ∙ ap (λ n. take n (drop from buffer) ++ drop n buffer) e

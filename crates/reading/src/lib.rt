@@ -1,8 +1,8 @@
 // A job read in parts: the bytes at hand stand in a buffer, and more are read behind them.
-// Entries: begin, carry; reach and lower are public for the crates above only. A cursor whose bounds pass the buffer or each other has only what stands within them at hand.
+// Entries: begin, carry; reach is public for the crates above only. A cursor whose bounds pass the buffer or each other has only what stands within them at hand.
 #![tactic(auto)]
 
-ghost use Rattle.std.specs.Prelude.{◌≡◌, ◌++◌, ◌-◌, ◌≤◌, min, length, take, drop};
+ghost use Rattle.std.specs.Prelude.{◌≡◌, ◌++◌, ◌≤◌, min, length, drop};
 ghost use Rattle.reading.specs.Cursors.{hand, at_start, carried_of, reach_of};
 
 // The bytes at hand stand from `at` to `end`; `offset`: where the first of them stands in the job.
@@ -29,7 +29,7 @@ pub fn carry(cursor: Cursor, buffer: &mut [u8]) -> Cursor
     ensures { (result ≡ carried_of cursor buffer.old) × (buffer.new ≡ hand cursor buffer.old ++ drop (length (hand cursor buffer.old)) buffer.old) }
 {
     let at = cursor.at;
-    let end = lower(cursor.end, buffer.len());
+    let end = cursor.end.min(buffer.len());
     if end < at {
         return Cursor {
             at: 0,
@@ -37,7 +37,7 @@ pub fn carry(cursor: Cursor, buffer: &mut [u8]) -> Cursor
             offset: cursor.offset,
         };
     }
-    to_front(&mut buffer[..], at, end);
+    buffer.copy_within(at..end, 0);
     Cursor {
         at: 0,
         end: end - at,
@@ -51,25 +51,5 @@ pub fn reach(cursor: Cursor) -> usize
     ensures { result ≡ reach_of cursor }
 {
     let most = u64::MAX - cursor.offset;
-    cursor.at + lower(cursor.end - cursor.at, most as usize)
-}
-
-pub fn lower(a: usize, b: usize) -> usize
-    ensures { result ≡ min a b }
-{
-    if a < b { a } else { b }
-}
-
-// The bytes from..to stand at the front too; what stands past them there is kept.
-fn to_front(buffer: &mut [u8], from: usize, to: usize)
-    requires { (from ≤ to) × (to ≤ length buffer.old) }
-    ensures { buffer.new ≡ take (to - from) (drop from buffer.old) ++ drop (to - from) buffer.old }
-{
-    let mut i = from;
-    let mut k = 0;
-    while i < to {
-        buffer[k] = buffer[i];
-        i += 1;
-        k += 1;
-    }
+    cursor.at + (cursor.end - cursor.at).min(most as usize)
 }

@@ -1,10 +1,9 @@
 -- 01, "What is turned away": the number of each refusal, and how tests follow each other.
--- Main definitions: number_of, check_number, unless, _then_, rank_of, earlier.
-use Rattle.std.specs.Prelude.{Bool, true, false, cond, ℕ, leb}
+-- Main definitions: number_of, Check, check_number, test_of, count_value, unless, _then_, rank_of, earlier.
+use Rattle.std.specs.Prelude.{Bool, true, false, cond, ℕ, leb, Result, Ok, Err}
+use Rattle.std.specs.Result.{result_unwrap_or}
 use Rattle.refusals.specs.declared.Refusal.{Refusal}
 use Rattle.refusals.specs.declared.Refusal.TheVariants.{Size, Shift, Length, Spare, Crossed, Loose, Command, Short, Early, Family}
-use Rattle.refusals.specs.declared.Check.{Check}
-use Rattle.refusals.specs.declared.Check.TheVariants.{Pass, Stop}
 
 -- the table's numbers. Document 02, N4: "strike number 11 from the table"; "the number isn't used again" (not_eleven).
 abbrev pub number_of : Refusal → ℕ
@@ -19,21 +18,34 @@ number_of Short = 8
 number_of Early = 9
 number_of Family = 10
 
--- "Success is 0."
-abbrev pub check_number : Check → ℕ
-check_number Pass = 0
-check_number (Stop x) = number_of x
+-- the answer of a test: it passes, or stops at a refusal
+abbrev pub Check : Type 0
+Check = Result (Unit {0}) Refusal
+
+-- the number of an answer: "Success is 0."
+abbrev pub check_number : {T : Type 0} → Result T Refusal → ℕ
+check_number (Ok v) = 0
+check_number (Err x) = number_of x
+
+-- the test that an answer passed, or stopped at
+abbrev pub test_of : {T : Type 0} → Result T Refusal → Check
+test_of (Ok v) = Ok tt
+test_of (Err x) = Err x
+
+-- a number that was asked for; 0 beside a refusal
+abbrev pub count_value : Result ℕ Refusal → ℕ
+count_value r = result_unwrap_or r 0
 
 -- a test: where it fails, the refusal
 abbrev pub unless : Bool → Refusal → Check
-unless true x = Pass
-unless false x = Stop x
+unless true x = Ok tt
+unless false x = Err x
 
 -- one test, and where it passes the next: the order of the table
 infixr 20 ◌then◌
 abbrev pub ◌then◌ : Check → Check → Check
-Pass then c = c
-Stop x then c = Stop x
+Ok tt then c = c
+Err x then c = Err x
 
 -- the place of a refusal in the order of tests: "Order 1, 2, 3, 4; then 5 and 6 exclude each other. 10 follows 1 .. In a job: 7, 8, 9, then the others."
 abbrev pub rank_of : Refusal → ℕ
@@ -54,6 +66,6 @@ first_of x y = cond (leb (rank_of x) (rank_of y)) x y
 
 -- two tests of one call, whatever order they were made in: the one that stops first by the order above; it passes where both do
 abbrev pub earlier : Check → Check → Check
-earlier Pass c = c
-earlier (Stop x) Pass = Stop x
-earlier (Stop x) (Stop y) = Stop (first_of x y)
+earlier (Ok tt) c = c
+earlier (Err x) (Ok tt) = Err x
+earlier (Err x) (Err y) = Err (first_of x y)

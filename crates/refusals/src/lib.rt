@@ -1,12 +1,12 @@
-// What is turned away (01): the refusals in 01's words, each with its number and its place in the order of tests, and the answer of a test: it passes, or stops at a refusal.
-// Entries: Refusal::number, Check::number, Check::earlier.
+// What is turned away (01): the refusals in 01's words, each with its number and its place in the order of tests. A test answers with Ok, or the refusal that it stops at.
+// Entries: Refusal::number, number, earlier.
 #![tactic(auto)]
 
 ghost use Rattle.std.specs.Prelude.{◌≡◌};
 ghost use Rattle.refusals.specs.Refusals.{number_of, check_number, rank_of, first_of};
 ghost use Rattle.refusals.specs.Refusals.{earlier as earlierOf};
 
-#[derive(Clone, Copy)]
+#[derive(Clone, Copy, Debug, PartialEq, Eq)]
 pub enum Refusal {
     Size,
     Shift,
@@ -18,12 +18,6 @@ pub enum Refusal {
     Short,
     Early,
     Family,
-}
-
-#[derive(Clone, Copy)]
-pub enum Check {
-    Pass,
-    Stop(Refusal),
 }
 
 impl Refusal {
@@ -67,33 +61,30 @@ impl Refusal {
         ensures { result ≡ first_of self other }
     {
         if self.rank() <= other.rank() {
-            return self;
+            self
+        } else {
+            other
         }
-        other
     }
 }
 
-impl Check {
-    // Success is 0.
-    pub fn number(self) -> u8
-        ensures { result ≡ check_number self }
-    {
-        match self {
-            Check::Pass => 0,
-            Check::Stop(x) => x.number(),
-        }
+// The number of an answer: success is 0.
+pub fn number<T>(answer: &Result<T, Refusal>) -> u8
+    ensures { result ≡ check_number answer.now }
+{
+    match answer {
+        Ok(_) => 0,
+        Err(x) => x.number(),
     }
+}
 
-    // Whichever of two tests stops first; it passes where both do.
-    pub fn earlier(self, other: Check) -> Check
-        ensures { result ≡ earlierOf self other }
-    {
-        match self {
-            Check::Pass => other,
-            Check::Stop(x) => match other {
-                Check::Pass => Check::Stop(x),
-                Check::Stop(y) => Check::Stop(x.first(y)),
-            },
-        }
+// Whichever of two tests stops first; it passes where both do.
+pub fn earlier(one: Result<(), Refusal>, other: Result<(), Refusal>) -> Result<(), Refusal>
+    ensures { result ≡ earlierOf one other }
+{
+    match (one, other) {
+        (Ok(()), _) => other,
+        (Err(_), Ok(())) => one,
+        (Err(x), Err(y)) => Err(x.first(y)),
     }
 }

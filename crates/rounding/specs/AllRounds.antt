@@ -1,6 +1,6 @@
 -- The rounds one after the other, until no erasure is left (Counting): their number is that of the definition.
 -- L is always the layout of n, t and the shifts.
-use Rattle.std.specs.Prelude.{◌≡◌, List, ℕ, suc, ◌+◌, ◌*◌, ◌≤◌, ◌<◌, take, replicate}
+use Rattle.std.specs.Prelude.{◌≡◌, List, ℕ, suc, ◌+◌, ◌*◌, ◌≤◌, ◌<◌, take, replicate, Ok}
 use Rattle.std.proofs.Common.{sym, ◌∙◌, ap, add-one, arith}
 use Rattle.std.proofs.Math.Path.{subst}
 use Rattle.std.proofs.Math.Logic.{by_cases}
@@ -14,7 +14,6 @@ use Rattle.plan.specs.Plans.{layout_of, plan_check}
 use Rattle.plan.proofs.PlanLaws.{good_bounds}
 use Rattle.plan.specs.declared.Plan.{Plan}
 use Rattle.plan.specs.GoodPlan.{GoodPlan, plan_valid}
-use Rattle.refusals.specs.declared.Check.TheVariants.{Pass}
 use Rattle.code.specs.Marks.{mark_bytes, NoSpare, erasures}
 use Rattle.code.specs.Rounds.{after, Rounds}
 use Rattle.code.specs.Laws.Forest.{Forest}
@@ -97,12 +96,12 @@ module _ {n t : ℕ} {shifts E sum tally queue : List ℕ} {head tail left : ℕ
     }
 
 -- the marks of a plan that is not refused
-pub plan_lent : (p : Plan) (m : List ℕ) → plan_check p ≡ Pass → length m ≡ mark_bytes (layout_of p) → NoSpare (layout_of p) m → Lent p.n p.t p.shifts m
+pub plan_lent : (p : Plan) (m : List ℕ) → plan_check p ≡ Ok tt → length m ≡ mark_bytes (layout_of p) → NoSpare (layout_of p) m → Lent p.n p.t p.shifts m
 unfolding layout_of layout mark_bytes
 plan_lent p m good long spare = record { good = good_bounds p good; marks_long = long; no_spare = spare }
 
 -- its rows' part of a table
-pub plan_table : (p : Plan) → plan_check p ≡ Pass → (take (2 * p.t) (replicate {A = ℕ} (2 * max_t) 0) ≡ replicate (2 * p.t) 0) × (2 * p.t ≡ length (take (2 * p.t) (replicate {A = ℕ} (2 * max_t) 0)))
+pub plan_table : (p : Plan) → plan_check p ≡ Ok tt → (take (2 * p.t) (replicate {A = ℕ} (2 * max_t) 0) ≡ replicate (2 * p.t) 0) × (2 * p.t ≡ length (take (2 * p.t) (replicate {A = ℕ} (2 * max_t) 0)))
 plan_table p good =
     let h : 2 * p.t ≤ 2 * max_t = omega (arith, good_bounds p good) in
     let z : Zeros (2 * p.t) (replicate (2 * max_t) 0) = zeros (2 * max_t) h in

@@ -1,11 +1,10 @@
 -- One round (Rounded): the rows that stand in the queue when it starts, settled one by one, leave what the round leaves.
 -- L is always the layout of n, t and the shifts.
-use Rattle.std.specs.Prelude.{◌≡◌, false, List, ℕ, ◌+◌, ◌-◌, ◌*◌, ◌≤◌, ◌<◌, length, get_or}
+use Rattle.std.specs.Prelude.{◌≡◌, false, List, ℕ, ◌+◌, ◌*◌, ◌≤◌, ◌<◌, length, get_or}
 use Rattle.std.proofs.Common.{sym, ◌∙◌, subst, inl, ⊎_elim, true≢false, le_antisymm, arith}
 use Rattle.std.proofs.Math.Logic.{by_cases}
 use Rattle.math.specs.Members.{◌∈◌}
 use Rattle.math.specs.MembersLaws.{by_test, dec_in, rising_ext}
-use Rattle.bounds.specs.Bounds.{max_t}
 use Rattle.plan.specs.Layout.{Layout, Valid, layout}
 use Rattle.plan.specs.GoodPlan.{plan_valid}
 use Rattle.code.specs.Rounds.{on_row, alone, round}
@@ -15,7 +14,6 @@ use Rattle.code.proofs.Laws.Leaves.{on_row_some}
 use Rattle.code.proofs.Laws.RoundsLaws.{alone_row, ∈_round, round_∈, rising_round}
 use Rattle.tables.specs.Picture.{counts}
 use Rattle.tables.proofs.Bounds.{tally_counts}
-use Rattle.queue.specs.RowQueue.{rows_full}
 use Rattle.rounding.specs.OneRow.{Left, Ready, Within, Turned}
 
 -- what a round does, whichever erasures it begins with; `end` is the tail at its start
@@ -95,7 +93,3 @@ ready_long d p =
     let y = d.rest.picture in
     let z = p.rest.picture in
     (z.sum_long ∙ sym y.sum_long, z.counted.long ∙ sym y.counted.long, p.rows.long ∙ sym d.rows.long)
-
-pub rounding_less : {n t : ℕ} {shifts sum₀ tally₀ sum tally queue : List ℕ} {left₀ i end tail left : ℕ}
-    → Rounding n t shifts sum₀ tally₀ left₀ sum tally queue i end tail left → i < tail → (i < 2 * max_t) × (2 * t - (i + 1) < 2 * t - i)
-rounding_less p h = let f = rows_full p.ready.rows in (omega (arith, p.ready.good.t_max), omega arith)

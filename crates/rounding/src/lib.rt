@@ -3,10 +3,9 @@
 // Public for the crate recovering only.
 #![tactic(auto)]
 
-ghost use Rattle.std.specs.Prelude.{◌≡◌, ◌*◌, ◌<◌, length, replicate};
+ghost use Rattle.std.specs.Prelude.{◌≡◌, ◌*◌, ◌<◌, length, replicate, Ok};
 ghost use Rattle.plan.specs.Plans.{layout_of, plan_check};
 ghost use Rattle.plan.specs.Layout.{layout};
-ghost use Rattle.refusals.specs.declared.Check.TheVariants as check;
 ghost use Rattle.code.specs.Marks.{mark_bytes, NoSpare, erasures};
 ghost use Rattle.code.specs.Rounds.{Rounds};
 ghost use Rattle.code.specs.Laws.Forest.{Forest};
@@ -15,7 +14,7 @@ ghost use Rattle.rounding.specs.OneRow.{Ready, Turned};
 ghost use Rattle.rounding.specs.OneRound.{Rounded};
 
 use plan::{Place, Plan};
-use queue::{enter, seed};
+use queue::{Branching, Enter, seed};
 use settling::settle::settle;
 use tables::lists::row_at;
 use tables::marks::note_marks;
@@ -43,16 +42,14 @@ fn turn(
     requires i_lt_tail { i < ends.tail }
     ensures { Turned n t shifts.now sum.old tally.old queue.old i ends.tail ends.left sum.new tally.new queue.new result.tail result.left }
 {
-    let tail = ends.tail;
-    let left = ends.left;
-    let row = row_at(&queue[..], i);
+    let Ends { tail, left } = ends;
+    let row = row_at(queue, i);
     let r = row.0 as usize;
     if tally[r] / TALLY_UNIT != 1 {
-        return Ends { tail, left };
+        return ends;
     }
-    let s = settle(n, t, shifts, &mut sum[..], &mut tally[..], row);
-    let other = s.other;
-    let longer = enter(&mut queue[..], tail, other, s.rest);
+    let s = settle(n, t, shifts, sum, tally, row);
+    let longer = Branching::enter(queue, tail, s.other, s.rest);
     Ends {
         tail: longer,
         left: left - 1,
@@ -74,25 +71,14 @@ fn round(
     requires { Ready n t shifts.now sum.old tally.old queue.old head end erased }
     ensures { Rounded n t shifts.now sum.old tally.old end erased sum.new tally.new queue.new result.tail result.left }
 {
-    let mut tail = end;
-    let mut left = erased;
-    let mut i = head;
-    while i < end {
-        let ends = turn(
-            n,
-            t,
-            shifts,
-            &mut sum[..],
-            &mut tally[..],
-            &mut queue[..],
-            i,
-            Ends { tail, left },
-        );
-        tail = ends.tail;
-        left = ends.left;
-        i += 1;
+    let mut ends = Ends {
+        tail: end,
+        left: erased,
+    };
+    for i in head..end {
+        ends = turn(n, t, shifts, sum, tally, queue, i, ends);
     }
-    Ends { tail, left }
+    ends
 }
 
 // The rounds until no erasure is left, of `count` marked places that hold no cycle. The tables are zeros.
@@ -110,23 +96,13 @@ fn count_rounds(
     requires sum_value { (sum.old ≡ replicate (2 * t) 0) × (tally.old ≡ replicate (2 * t) 0) × (length queue.old ≡ 2 * t) }
     ensures { Rounds (layout n t shifts.now) (erasures (layout n t shifts.now) marks.now) result }
 {
-    note_marks(n, t, shifts, marks, Place(0), &mut tally[..]);
-    let mut tail = seed(t, &tally[..], &mut queue[..]);
+    note_marks(n, t, shifts, marks, Place(0), tally);
+    let mut tail = seed(t, tally, queue);
     let mut head = 0;
     let mut left = count;
     let mut k = 0;
     while 0 < left {
-        let ends = round(
-            n,
-            t,
-            shifts,
-            &mut sum[..],
-            &mut tally[..],
-            &mut queue[..],
-            head,
-            tail,
-            left,
-        );
+        let ends = round(n, t, shifts, sum, tally, queue, head, tail, left);
         head = tail;
         tail = ends.tail;
         left = ends.left;
@@ -137,7 +113,7 @@ fn count_rounds(
 
 // The same of a plan.
 pub fn rounds(plan: Plan, marks: &[u8], count: usize) -> usize
-    requires plan_value { (plan_check plan ≡ check.Pass) × (length marks.now ≡ mark_bytes (layout_of plan)) × NoSpare (layout_of plan) marks.now }
+    requires plan_value { (plan_check plan ≡ Ok tt) × (length marks.now ≡ mark_bytes (layout_of plan)) × NoSpare (layout_of plan) marks.now }
     requires forest { Forest (layout_of plan) (erasures (layout_of plan) marks.now) × (count ≡ length (erasures (layout_of plan) marks.now)) }
     ensures { Rounds (layout_of plan) (erasures (layout_of plan) marks.now) result }
 {

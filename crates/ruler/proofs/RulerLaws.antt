@@ -1,7 +1,8 @@
 -- The rulers' facts, each by one test that antt computes over the whole table: the rule (`rulers_keep_rule`), the length
--- and the bounds of each row, a flat table's entries, and the neighbours that share a factor with t.
-use Rattle.std.specs.Prelude.{◌≡◌, refl, Bool, true, false, not, ◌||◌, ◌≢◌, List, [], ◌∷◌, ◌++◌, ℕ, ◌+◌, ◌-◌, ◌*◌, ◌/◌, ◌%◌, ◌^◌, ◌<◌, ◌≤◌, leb, eqb, length, get_or, replicate}
-use Rattle.std.proofs.Common.{sym, ◌∙◌, ap, subst, arith, add_comm, get_or-drop, leb-true, ne_eqb, eqb-true}
+-- and the bounds of each row, the rows as the code has them, and the neighbours that share a factor with t.
+use Rattle.std.specs.Prelude.{◌≡◌, refl, Bool, true, false, not, ◌||◌, ◌≢◌, List, [], ◌++◌, ℕ, ◌+◌, ◌-◌, ◌*◌, ◌/◌, ◌%◌, ◌^◌, ◌<◌, ◌≤◌, leb, eqb, length, get_or, replicate, map, take, drop}
+use Rattle.std.proofs.Common.{sym, ◌∙◌, ap, subst, arith, leb-true, ne_eqb, eqb-true}
+use Rattle.std.specs.Cmp.Lexicographic.{pointwise, same_text}
 use Rattle.math.specs.Gcd.{gcd, gap}
 use Rattle.math.specs.Members.{up_to}
 use Rattle.math.specs.Sums.{sum_over, only}
@@ -70,21 +71,17 @@ pub ruler_wide : (n : ℕ) → 3 ≤ n → n ≤ 14 → n ≤ ruler_t n
 unfolding ruler_t
 ruler_wide n h h' = leb-true _ _ (in_every_row (λ n. leb n (ruler_t n)) refl n h h')
 
--- the table as the code has it: a row of 16 numbers for each ruler, zeros past its end
-unfoldable pub flat : List (List ℕ) → List ℕ
-flat [] = []
-flat (row ∷ rows) = (row ++ replicate (16 - length row) 0) ++ flat rows
+-- the table as the code has it: each row filled up to 16 numbers
+unfoldable pub filled : List (List ℕ)
+filled = map (λ row. row ++ replicate (16 - length row) 0) rulers
 
-pub flat_entry : (n i : ℕ) → 3 ≤ n → n ≤ 14 → i < 16 → get_or (flat rulers) ((n - 3) * 16 + i) 0 ≡ get_or (get_or rulers (n - 3) []) i 0
-unfolding flat rulers
-flat_entry n i h h' hi = eqb-true _ _ (every_at 16 (at (n - 3)) (every_at 12 (λ m. every 16 (at m)) refl (n - 3) (omega arith)) i hi)
-  where
-    at : ℕ → ℕ → Bool
-    at m i = eqb (get_or (flat rulers) (m * 16 + i) 0) (get_or (get_or rulers m []) i 0)
+pub filled_t : (n : ℕ) → 3 ≤ n → n ≤ 14 → get_or (get_or filled (n - 3) []) 0 0 ≡ ruler_t n
+unfolding filled rulers ruler_t
+filled_t n h h' = eqb-true _ _ (in_every_row (λ n. eqb (get_or (get_or filled (n - 3) []) 0 0) (ruler_t n)) refl n h h')
 
-pub ruler_shift : (n i : ℕ) → get_or (get_or rulers (n - 3) []) (i + 1) 0 ≡ get_or (ruler_shifts n) i 0
-unfolding ruler_shifts
-ruler_shift n i = sym (get_or-drop 1 (get_or rulers (n - 3) []) i 0 ∙ ap (λ (k : ℕ). get_or (get_or rulers (n - 3) []) k 0) (add_comm 1 i))
+pub filled_shifts : (n : ℕ) → 3 ≤ n → n ≤ 14 → take (n + 1 - 1) (drop 1 (get_or filled (n - 3) [])) ≡ ruler_shifts n
+unfolding filled rulers ruler_shifts
+filled_shifts n h h' = same_text _ _ (sym (in_every_row (λ n. pointwise eqb (take (n + 1 - 1) (drop 1 (get_or filled (n - 3) []))) (ruler_shifts n)) refl n h h'))
 
 -- "ruler neighbours 3, 15 at t 48 sharing 12, and 76, 82 at t 183 sharing 3"
 pub neighbours_share :

@@ -9,20 +9,17 @@ ghost use Rattle.plan.specs.Layout.{Layout, layout};
 ghost use Rattle.plan.specs.GoodPlan.{GoodPlan};
 ghost use Rattle.runs.specs.Runs.{RunsOf, Runs, Lent, Full, Spread};
 
-use shifts::{gap, gcd, wide};
-use slices::{clear_bytes, copy_bytes};
+use shifts::gcd;
 
 // From the last section down, with the divisor of the differences so far; into zeros.
 pub fn runs(n: usize, t: usize, shifts: &[u16], r: &mut [u16])
     requires { GoodPlan n t shifts.now × (r.old ≡ replicate 32 0) }
     ensures { RunsOf n t (layout n t shifts.now) r.new }
 {
-    let last = wide(shifts[n - 1]);
+    let last = usize::from(shifts[n - 1]);
     let mut g = t;
-    let mut j = n - 1;
-    while 0 < j {
-        j -= 1;
-        let h = share(gap(wide(shifts[j]), last), g);
+    for j in (0..n - 1).rev() {
+        let h = share(usize::from(shifts[j]).abs_diff(last), g);
         r[j] = (t - g + h) as u16;
         g = h;
     }
@@ -43,14 +40,12 @@ fn full(n: usize, t: usize, runs: &[u16]) -> usize
     requires { n ≤ length runs.now }
     ensures { Full n t runs.now result }
 {
-    let mut j = 0;
-    while j < n {
-        if wide(runs[j]) != t {
+    for j in 0..n {
+        if usize::from(runs[j]) != t {
             return j;
         }
-        j += 1;
     }
-    j
+    n
 }
 
 // The message of a block. Full sections follow on each other in both, so they are copied at once.
@@ -58,18 +53,16 @@ pub fn gather(n: usize, t: usize, runs: &[u16], block: &[u8], message: &mut [u8]
     requires { Lent n t runs.now block.now message.old }
     ensures { (L : Layout) → RunsOf n t L runs.now → message.new ≡ map (λ c. get_or block.now c 0) (messages L) }
 {
-    let mut j = full(n, t, runs);
-    let mut from = j * t;
-    let mut done = from;
-    copy_bytes(&block[0..done], &mut message[0..done]);
-    while j < n {
-        let run = wide(runs[j]);
+    let whole = full(n, t, runs);
+    let mut done = whole * t;
+    message[..done].copy_from_slice(&block[..done]);
+    for j in whole..n {
+        let run = usize::from(runs[j]);
+        let from = j * t;
         let end = from + run;
         let next = done + run;
-        copy_bytes(&block[from..end], &mut message[done..next]);
-        from += t;
+        message[done..next].copy_from_slice(&block[from..end]);
         done = next;
-        j += 1;
     }
 }
 
@@ -78,19 +71,17 @@ pub fn spread(n: usize, t: usize, runs: &[u16], message: &[u8], block: &mut [u8]
     requires { Lent n t runs.now block.old message.now }
     ensures { (L : Layout) → RunsOf n t L runs.now → Spread L message.now block.new }
 {
-    let mut j = full(n, t, runs);
-    let mut from = j * t;
-    let mut done = from;
-    copy_bytes(&message[0..done], &mut block[0..done]);
-    while j < n {
-        let run = wide(runs[j]);
+    let whole = full(n, t, runs);
+    let mut done = whole * t;
+    block[..done].copy_from_slice(&message[..done]);
+    for j in whole..n {
+        let run = usize::from(runs[j]);
+        let from = j * t;
         let end = from + run;
         let next = done + run;
         let stop = from + t;
-        copy_bytes(&message[done..next], &mut block[from..end]);
-        clear_bytes(&mut block[end..stop]);
-        from = stop;
+        block[from..end].copy_from_slice(&message[done..next]);
+        block[end..stop].fill(0);
         done = next;
-        j += 1;
     }
 }

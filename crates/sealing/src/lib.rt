@@ -2,12 +2,10 @@
 // Entries: encode, message_of. The function reseal is public for the crates above only.
 #![tactic(auto)]
 
-ghost use Rattle.std.specs.Prelude.{◌≡◌, map, ◌*◌, ◌≤◌, length, replicate};
-ghost use Rattle.bounds.specs.Bounds.{max_t};
+ghost use Rattle.std.specs.Prelude.{◌≡◌, map, ◌*◌, ◌^◌, ◌≤◌, ◌<◌, length, replicate, Ok};
 ghost use Rattle.plan.specs.Layout.{layout, message_count};
 ghost use Rattle.plan.specs.GoodPlan.{GoodPlan};
 ghost use Rattle.plan.specs.Plans.{layout_of, plan_check};
-ghost use Rattle.refusals.specs.declared.Check.TheVariants as check;
 ghost use Rattle.code.specs.Codewords.{Codeword, at};
 ghost use Rattle.code.specs.Messages.{Carries};
 ghost use Rattle.code.specs.Laws.ParityCount.{messages};
@@ -18,13 +16,12 @@ ghost use Rattle.tables.specs.Zeros.{Zeros};
 ghost use Rattle.parities.specs.Settling.{Sealable};
 ghost use Rattle.sealing.specs.Passing.{Checks};
 
-use answers::{Encoding, Reading};
-use calls::{Lent, Part, check_lent, lengths_fit};
+use answers::Reading;
+use calls::{Lent, check_lent, lengths_fit};
 use parities::fill_parities;
 use plan::Plan;
-use refusals::Check;
+use refusals::Refusal;
 use runs::{gather, runs, spread};
-use shifts::wide;
 use slices::zero_bytes;
 use sums::syndromes;
 
@@ -34,36 +31,30 @@ fn run_total(n: usize, runs: &[u16]) -> usize
     ensures { result ≡ total runs.now n }
 {
     let mut sum = 0;
-    let mut j = 0;
-    while j < n {
-        sum += wide(runs[j]);
-        j += 1;
+    for run in &runs[..n] {
+        sum += usize::from(*run);
     }
     sum
 }
 
 // What refuses a call with a message and a block, and no marks. The runs of a good plan are put into zeros: they say how many message places there are.
-fn check(plan: Plan, message: &[u8], block: &[u8], r: &mut [u16]) -> Check
+fn check(plan: Plan, message: &[u8], block: &[u8], r: &mut [u16]) -> Result<(), Refusal>
     requires { r.old ≡ replicate 32 0 }
     ensures { Checks plan message.now block.now result r.new }
 {
     let lent = Lent {
-        block: Part::Of(block.len()),
-        marks: Part::Unlent,
-        witness: Part::Unlent,
-        message: Part::Of(message.len()),
+        block: Some(block.len()),
+        marks: None,
+        witness: None,
+        message: Some(message.len()),
     };
     let n = plan.n;
     let t = plan.t;
     let s = plan.shifts;
-    match plan.check() {
-        Check::Stop(x) => Check::Stop(x),
-        Check::Pass => {
-            runs(n, t, &s[..], &mut r[..]);
-            let fits = lengths_fit(n, t, run_total(n, &r[..]), lent);
-            check_lent(fits, n * t, &message[0..0])
-        }
-    }
+    plan.check()?;
+    runs(n, t, &s[..], &mut r[..]);
+    let fits = lengths_fit(n, t, run_total(n, &r[..]), lent);
+    check_lent(fits, n * t, &message[0..0])
 }
 
 // Writes the codeword that carries the message.
@@ -71,30 +62,26 @@ fn seal(n: usize, t: usize, shifts: &[u16], runs: &[u16], message: &[u8], block:
     requires { Sealable n t shifts.now runs.now block.old × (length message.now ≡ message_count (layout n t shifts.now)) }
     ensures { Carries (layout n t shifts.now) block.new message.now }
 {
-    spread(n, t, runs, message, &mut block[..]);
-    fill_parities(n, t, shifts, runs, &mut block[..]);
+    spread(n, t, runs, message, block);
+    fill_parities(n, t, shifts, runs, block);
 }
 
 // The one codeword that carries the message is written to the block. There always is one.
-pub fn encode(plan: Plan, message: &[u8], block: &mut [u8]) -> Encoding
+pub fn encode(plan: Plan, message: &[u8], block: &mut [u8]) -> Result<(), Refusal>
     ensures { Encodes plan message.now block.old result block.new }
 {
     let n = plan.n;
     let t = plan.t;
     let s = plan.shifts;
     let mut r = [0u16; 32];
-    match check(plan, message, &block[..], &mut r[..]) {
-        Check::Pass => {
-            seal(n, t, &s[..], &r[..], message, &mut block[..]);
-            Encoding::Encoded
-        }
-        Check::Stop(x) => Encoding::Refused(x),
-    }
+    check(plan, message, &block[..], &mut r[..])?;
+    seal(n, t, &s[..], &r[..], message, &mut block[..]);
+    Ok(())
 }
 
 // The block becomes the codeword that carries what stands at its message places. Only parity places are written, and nothing is copied.
 pub fn reseal(plan: Plan, block: &mut [u8])
-    requires { (plan_check plan ≡ check.Pass) × (length block.old ≡ plan.n * plan.t) }
+    requires { (plan_check plan ≡ Ok tt) × (length block.old ≡ plan.n * plan.t) }
     ensures { Carries (layout_of plan) block.new (map (at block.old) (messages (layout_of plan))) }
 {
     let n = plan.n;
@@ -116,32 +103,22 @@ fn rows_clean(n: usize, t: usize, shifts: &[u16], block: &[u8], sum: &mut [u8]) 
     zero_bytes(&sum[..rows])
 }
 
-fn clean_small(n: usize, t: usize, shifts: &[u16], block: &[u8]) -> bool
+// With a table of ROWS entries: the language clears a local array whole, so a small plan takes a small one.
+fn clean_in<const ROWS: usize>(n: usize, t: usize, shifts: &[u16], block: &[u8]) -> bool
     requires good_plan { GoodPlan n t shifts.now × (length block.now ≡ n * t) }
-    requires t_bound { t ≤ 32 }
+    requires rows { (2 * t ≤ ROWS) × (ROWS < 2 ^ 16) }
     ensures { Tells (Codeword (layout n t shifts.now) block.now) result }
 {
-    let mut sum = [0u8; 2 * 32];
-    rows_clean(n, t, shifts, block, &mut sum[..])
+    let mut sum = [0u8; ROWS];
+    rows_clean(n, t, shifts, block, &mut sum)
 }
 
-fn clean_medium(n: usize, t: usize, shifts: &[u16], block: &[u8]) -> bool
-    requires good_plan { GoodPlan n t shifts.now × (length block.now ≡ n * t) }
-    requires t_bound { t ≤ 256 }
-    ensures { Tells (Codeword (layout n t shifts.now) block.now) result }
-{
-    let mut sum = [0u8; 2 * 256];
-    rows_clean(n, t, shifts, block, &mut sum[..])
-}
+// Entries for the rows of the plans up to t = 32, 256 and the largest t.
+const SMALL: usize = 2 * 32;
 
-fn clean_large(n: usize, t: usize, shifts: &[u16], block: &[u8]) -> bool
-    requires good_plan { GoodPlan n t shifts.now × (length block.now ≡ n * t) }
-    requires t_le_max_t { t ≤ max_t }
-    ensures { Tells (Codeword (layout n t shifts.now) block.now) result }
-{
-    let mut sum = [0u8; 2 * Plan::MAX_T];
-    rows_clean(n, t, shifts, block, &mut sum[..])
-}
+const MEDIUM: usize = 2 * 256;
+
+const LARGE: usize = 2 * Plan::MAX_T;
 
 // The row test, with a table of the plan's size.
 fn is_codeword(n: usize, t: usize, shifts: &[u16], block: &[u8]) -> bool
@@ -149,12 +126,12 @@ fn is_codeword(n: usize, t: usize, shifts: &[u16], block: &[u8]) -> bool
     ensures { Tells (Codeword (layout n t shifts.now) block.now) result }
 {
     if t <= 32 {
-        return clean_small(n, t, shifts, block);
+        clean_in::<SMALL>(n, t, shifts, block)
+    } else if t <= 256 {
+        clean_in::<MEDIUM>(n, t, shifts, block)
+    } else {
+        clean_in::<LARGE>(n, t, shifts, block)
     }
-    if t <= 256 {
-        return clean_medium(n, t, shifts, block);
-    }
-    clean_large(n, t, shifts, block)
 }
 
 // The message that the block carries. A block that is no codeword carries none, and nothing is written.
@@ -166,13 +143,13 @@ pub fn message_of(plan: Plan, block: &[u8], message: &mut [u8]) -> Reading
     let s = plan.shifts;
     let mut r = [0u16; 32];
     match check(plan, &message[..], block, &mut r[..]) {
-        Check::Pass => {
+        Ok(()) => {
             if !is_codeword(n, t, &s[..], block) {
                 return Reading::Crossed;
             }
             gather(n, t, &r[..], block, &mut message[..]);
             Reading::Read
         }
-        Check::Stop(x) => Reading::Refused(x),
+        Err(x) => Reading::Refused(x),
     }
 }

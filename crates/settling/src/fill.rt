@@ -10,20 +10,16 @@ pub fn fill(block: &mut [u8], place: &[u16], value: &[u8], k: usize)
     requires { Fillable block.old place.now value.now k }
     ensures { block.new ≡ filled block.old place.now value.now k }
 {
-    let mut i = 0;
-    while i < k {
+    for i in 0..k {
         let c = place_at(place, i).0 as usize;
-        block[c] = block[c] ^ value[i];
-        i += 1;
+        block[c] ^= value[i];
     }
 }
 
 // No row has a sum, and none an erasure left.
+#[tactic(auto, unfolding(crate::specs::Fill::clean_of))]
 pub fn clean(sum: &[u8], tally: &[u16]) -> bool
     ensures { result ≡ clean_of sum.now tally.now }
 {
-    if !zero_bytes(sum) {
-        return false;
-    }
-    zero_words(tally)
+    zero_bytes(sum) && zero_words(tally)
 }

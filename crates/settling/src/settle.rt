@@ -33,7 +33,7 @@ pub(crate) fn remove(
     sum[row] = 0;
     let rest = tally[other] - w;
     tally[other] = rest;
-    sum[other] = sum[other] ^ x;
+    sum[other] ^= x;
     rest / TALLY_UNIT
 }
 
@@ -57,7 +57,7 @@ pub fn settle(
     let p = shifts[j] as usize;
     let met = beside(t, p, r);
     let place = Place((j * t + met.offset) as u16);
-    let rest = remove(&mut sum[..], &mut tally[..], r, met.other, w, x);
+    let rest = remove(sum, tally, r, met.other, w, x);
     Settled {
         place,
         value: x,

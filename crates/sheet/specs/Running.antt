@@ -1,7 +1,6 @@
 -- What a run over a whole job promises, and what holds on the way.
 -- Main definitions: Follows, Cut, Runs; Running.
-use Rattle.std.specs.Prelude.{◌≡◌, ◌≢◌, List, ℕ, ◌+◌, ◌≤◌, ◌<◌, length, take, drop}
-use Rattle.refusals.specs.declared.Check.TheVariants.{Pass}
+use Rattle.std.specs.Prelude.{◌≡◌, ◌≢◌, List, ℕ, ◌+◌, ◌≤◌, ◌<◌, length, take, drop, Result, Ok, Err}
 use Rattle.commands.specs.Commands.{parsed}
 use Rattle.commands.specs.declared.Command.{Command}
 use Rattle.commands.specs.declared.Parsed.TheVariants as front
@@ -9,17 +8,17 @@ use Rattle.lines.specs.Lines.{line_length}
 use Rattle.state.specs.State.{State}
 use Rattle.state.specs.Refusing.{refusal_of}
 use Rattle.act.specs.Meaning.{Means}
-use Rattle.act.specs.Acts.{state_of, Kept}
-use Rattle.act.specs.declared.Held.{Held}
+use Rattle.act.specs.Acts.{state_of, Kept, Held}
 use Rattle.turns.specs.Sheets.{Sheet, start}
 use Rattle.one_sheet.specs.Begins.{Begins}
-use Rattle.sheet.specs.declared.Ran.{Ran}
-use Rattle.sheet.specs.declared.Ran.TheVariants.{Whole, Full}
+use Rattle.putting.specs.declared.Phase.{Phase}
+use Rattle.putting.specs.declared.Phase.TheVariants as phases
+use Rattle.sheet.specs.declared.Full.{Full}
 
 -- the line that follows: that of a command that goes on, or where none does the last line
 pub data Follows (o : ℕ) (s : State) (b said : List ℕ) : Type 0 where
-  goes : (c : Command) (s' : State) → parsed b ≡ front.Whole c → refusal_of s c ≡ Pass → Means c s s' said → Follows o s b said
-  closes : ((c : Command) → parsed b ≡ front.Whole c → refusal_of s c ≢ Pass) → Sheet o s b said → Follows o s b said
+  goes : (c : Command) (s' : State) → parsed b ≡ front.Whole c → refusal_of s c ≡ Ok tt → Means c s s' said → Follows o s b said
+  closes : ((c : Command) → parsed b ≡ front.Whole c → refusal_of s c ≢ (Ok tt)) → Sheet o s b said → Follows o s b said
 
 -- a sheet that was cut: the text is the job's first lines, and there is no room for the line that follows
 pub record Cut (job : List ℕ) (room : ℕ) (text : List ℕ) : Type 0 where
@@ -31,27 +30,26 @@ pub record Cut (job : List ℕ) (room : ℕ) (text : List ℕ) : Type 0 where
   pub no_room : room < length text + length next
 
 -- the length of what was written
-abbrev pub written : Ran → ℕ
-written (Whole k) = k
-written (Full k) = k
+abbrev pub written : Result ℕ Full → ℕ
+written (Ok k) = k
+written (Err f) = f.written
 
 -- run: the sheet of the job, or where the lent sheet is too short its first lines. What stands past them is kept.
-pub record Runs (job sheet : List ℕ) (r : Ran) (sheet' : List ℕ) : Type 0 where
-  pub whole : (k : ℕ) → r ≡ Whole k → Sheet 0 start job (take k sheet')
-  pub full : (k : ℕ) → r ≡ Full k → Cut job (length sheet) (take k sheet')
+pub record Runs (job sheet : List ℕ) (r : Result ℕ Full) (sheet' : List ℕ) : Type 0 where
+  pub whole : (k : ℕ) → r ≡ Ok k → Sheet 0 start job (take k sheet')
+  pub full : (f : Full) → r ≡ Err f → Cut job (length sheet) (take f.written sheet')
   pub within : written r ≤ length sheet
   pub long : length sheet' ≡ length sheet
   pub rest : drop (written r) sheet' ≡ drop (written r) sheet
 
 -- on the way: the state is kept, and the lines so far begin or make the sheet; `lent` is the sheet as it was lent
-pub record Running (job lent : List ℕ) (h : Held) (v m l : List ℕ) (at to : ℕ) (sheet : List ℕ) (phase : ℕ) : Type 0 where
+pub record Running (job lent : List ℕ) (h : Held) (v m l : List ℕ) (at to : ℕ) (sheet : List ℕ) (phase : Phase) : Type 0 where
   pub kept : Kept h v m
   pub line_long : length l ≡ line_length
   pub inside : at ≤ length job
   pub room : to ≤ length sheet
   pub long : length sheet ≡ length lent
   pub rest : drop to sheet ≡ drop to lent
-  pub phases : phase ≤ 2
-  pub going : phase ≡ 0 → Begins job at (state_of h v m) (take to sheet)
-  pub closed : phase ≡ 1 → Sheet 0 start job (take to sheet)
-  pub full : phase ≡ 2 → Cut job (length lent) (take to sheet)
+  pub going : phase ≡ phases.Going → Begins job at (state_of h v m) (take to sheet)
+  pub closed : phase ≡ phases.Closed → Sheet 0 start job (take to sheet)
+  pub full : phase ≡ phases.Full → Cut job (length lent) (take to sheet)

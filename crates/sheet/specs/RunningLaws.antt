@@ -1,8 +1,7 @@
 -- From turns to the sheet: how each step keeps the run going.
 -- Main results: turned, turn_fits, next_placed; run_start, run_whole, run_full; held_ready.
-use Rattle.std.specs.Prelude.{◌≡◌, refl, true, List, [], ℕ, ◌+◌, ◌-◌, ◌^◌, ◌≤◌, ◌<◌, length, get_or, take, drop}
+use Rattle.std.specs.Prelude.{◌≡◌, refl, true, List, [], ℕ, ◌+◌, ◌-◌, ◌^◌, ◌≤◌, ◌<◌, length, get_or, take, drop, Ok, Err}
 use Rattle.std.proofs.Common.{sym, ◌∙◌, ap, subst, arith, length-take, length-drop, length-append, take_all, drop-drop, length-take-le}
-use Rattle.refusals.specs.declared.Check.TheVariants.{Pass}
 use Rattle.commands.specs.Commands.{size_of, parsed}
 use Rattle.commands.specs.declared.Command.{Command}
 use Rattle.commands.specs.declared.Parsed.TheVariants.{Whole}
@@ -10,8 +9,7 @@ use Rattle.pieces.specs.Pieces.{Appends}
 use Rattle.lines.specs.Lines.{line_length}
 use Rattle.state.specs.State.{State}
 use Rattle.state.specs.Refusing.{refusal_of}
-use Rattle.act.specs.Acts.{block_length, marks_length, state_of, Kept, Acts}
-use Rattle.act.specs.declared.Held.{Held}
+use Rattle.act.specs.Acts.{block_length, marks_length, state_of, Kept, Acts, Held}
 use Rattle.turns.specs.Sheets.{start}
 use Rattle.standing.specs.StandingLaws.{kept_pass}
 use Rattle.turns.specs.Turns.{Same, unplanned}
@@ -21,8 +19,10 @@ use Rattle.turns.specs.declared.Turn.TheVariants.{On}
 use Rattle.putting.specs.Putting.{Put, fits, no_room, Fits, Placed, on, ended, stopped, waits, bad}
 use Rattle.one_sheet.specs.Outcomes.{Closing, Outcome, outcome, on_count, end_count, stop_count, never_waits, never_bad}
 use Rattle.one_sheet.specs.Begins.{Begins, nothing_yet, one_more, begins_more, held_start}
-use Rattle.sheet.specs.Running.{Follows, goes, closes, Cut, Runs, Running}
-use Rattle.sheet.specs.declared.Ran.TheVariants as ran
+use Rattle.sheet.specs.Running.{Follows, goes, closes, Cut, Runs, Running, written}
+use Rattle.putting.specs.declared.Phase.{Phase}
+use Rattle.putting.specs.declared.Phase.TheVariants as phases
+use Rattle.putting.specs.PutLaws.{else_full}
 
 zero_one : ◌≡◌ {A = ℕ} 0 1 → ⊥
 zero_one e = omega arith
@@ -32,8 +32,8 @@ kept_same k s = rw (s.held, s.block, s.marks) k
 
 -- ---- one step of the run
 
-module _ {job lent : List ℕ} {h : Held} {v m l : List ℕ} {at to : ℕ} {sheet : List ℕ} {phase : ℕ}
-    (r : Running job lent h v m l at to sheet phase) (zero : phase ≡ 0) where
+module _ {job lent : List ℕ} {h : Held} {v m l : List ℕ} {at to : ℕ} {sheet : List ℕ} {phase : Phase}
+    (r : Running job lent h v m l at to sheet phase) (zero : phase ≡ phases.Going) where
   part_is : take (length job - at) (drop at job) ≡ drop at job
   part_is = take_all (length job - at) (drop at job) (omega (arith, length-drop at job))
 
@@ -73,13 +73,13 @@ module _ {job lent : List ℕ} {h : Held} {v m l : List ℕ} {at to : ℕ} {shee
       })
 
   -- a turn that goes on, its line put
-  next_on : {turn : Turn} {h' g : Held} {v' m' l' sheet' : List ℕ} (used count : ℕ) {x to' phase' : ℕ} → turn ≡ On used count → Outcome h v m (drop at job) at turn h' v' m' l' →
-      length l' ≡ length l → g ≡ h' → x ≡ at + used → Put l' count sheet to 0 sheet' to' phase' →
-      Running job lent g v' m' l' x to' sheet' phase' × (phase' ≡ 0 → at < x)
+  next_on : {turn : Turn} {h' g : Held} {v' m' l' sheet' : List ℕ} (used count : ℕ) {x to' : ℕ} {phase' : Phase} → turn ≡ On used count → Outcome h v m (drop at job) at turn h' v' m' l' →
+      length l' ≡ length l → g ≡ h' → x ≡ at + used → Put l' count sheet to phases.Going sheet' to' phase' →
+      Running job lent g v' m' l' x to' sheet' phase' × (phase' ≡ phases.Going → at < x)
   next_on {turn} {h'} {g} {v'} {m'} {l'} {sheet'} used count {x} {to'} {phase'} e o long same-held step put = go put
     where
       w : (count ≤ length l') × (0 < used) × (used ≤ length (drop at job))
-          × ((c : Command) × (parsed (drop at job) ≡ Whole c) × (refusal_of (state_of h v m) c ≡ Pass) × (used ≡ size_of (get_or (drop at job) 0 0)) × Acts c h v m (take count l') h' v' m')
+          × ((c : Command) × (parsed (drop at job) ≡ Whole c) × (refusal_of (state_of h v m) c ≡ Ok tt) × (used ≡ size_of (get_or (drop at job) 0 0)) × Acts c h v m (take count l') h' v' m')
       w = on_count used count e o
 
       inside : x ≤ length job
@@ -91,7 +91,7 @@ module _ {job lent : List ℕ} {h : Held} {v m l : List ℕ} {at to : ℕ} {shee
       further : at < x
       further = omega (arith, w.1)
 
-      go : Put l' count sheet to 0 sheet' to' phase' → Running job lent g v' m' l' x to' sheet' phase' × (phase' ≡ 0 → at < x)
+      go : Put l' count sheet to phases.Going sheet' to' phase' → Running job lent g v' m' l' x to' sheet' phase' × (phase' ≡ phases.Going → at < x)
       go (fits p a) = (
         record {
           kept = kept;
@@ -100,12 +100,11 @@ module _ {job lent : List ℕ} {h : Held} {v m l : List ℕ} {at to : ℕ} {shee
           room = (after a).0;
           long = (after a).1;
           rest = (after a).2;
-          phases = omega arith;
           going = λ _.
               let size : x ≡ at + size_of (get_or (drop at job) 0 0) = step ∙ ap (λ y. at + y) w.3.3 in
               rw (size, a.text_stands, same-held) (one_more (r.going zero) w.3.0 (state_of h' v' m') (take count l') w.3.1 w.3.2 w.3.4.means);
-          closed = λ q. absurd (omega arith);
-          full = λ q. absurd (omega arith);
+          closed = λ q. absurd (zero_one (cc));
+          full = λ q. absurd (zero_one (cc));
         },
         λ _. further,
       )
@@ -117,24 +116,23 @@ module _ {job lent : List ℕ} {h : Held} {v m l : List ℕ} {at to : ℕ} {shee
           room = rw (e1, e2) r.room;
           long = rw e2 r.long;
           rest = rw (e1, e2) r.rest;
-          phases = omega arith;
-          going = λ q. absurd (omega arith);
-          closed = λ q. absurd (omega arith);
+          going = λ q. absurd (zero_one (cc));
+          closed = λ q. absurd (zero_one (cc));
           full = λ _. cut l' count e1 e2 short w.0 (goes w.3.0 (state_of h' v' m') w.3.1 w.3.2 w.3.4.means);
         },
         λ _. further,
       )
 
   -- a turn that closes the sheet, its line put
-  next_close : {h' g : Held} {v' m' l' sheet' : List ℕ} (count : ℕ) {x to' phase' : ℕ} → count ≤ length l' → Closing at (state_of h v m) (drop at job) (take count l') →
-      Same h v m h' v' m' → length l' ≡ length l → g ≡ h' → x ≡ at → Put l' count sheet to 1 sheet' to' phase' →
-      Running job lent g v' m' l' x to' sheet' phase' × (phase' ≡ 0 → at < x)
+  next_close : {h' g : Held} {v' m' l' sheet' : List ℕ} (count : ℕ) {x to' : ℕ} {phase' : Phase} → count ≤ length l' → Closing at (state_of h v m) (drop at job) (take count l') →
+      Same h v m h' v' m' → length l' ≡ length l → g ≡ h' → x ≡ at → Put l' count sheet to phases.Closed sheet' to' phase' →
+      Running job lent g v' m' l' x to' sheet' phase' × (phase' ≡ phases.Going → at < x)
   next_close {h'} {g} {v'} {m'} {l'} {sheet'} count {x} {to'} {phase'} fit s y long same-held step put = go put
     where
       kept : Kept g v' m'
       kept = rw same-held (kept_same r.kept y)
 
-      go : Put l' count sheet to 1 sheet' to' phase' → Running job lent g v' m' l' x to' sheet' phase' × (phase' ≡ 0 → at < x)
+      go : Put l' count sheet to phases.Closed sheet' to' phase' → Running job lent g v' m' l' x to' sheet' phase' × (phase' ≡ phases.Going → at < x)
       go (fits p a) = (
         record {
           kept = kept;
@@ -143,12 +141,11 @@ module _ {job lent : List ℕ} {h : Held} {v m l : List ℕ} {at to : ℕ} {shee
           room = (after a).0;
           long = (after a).1;
           rest = (after a).2;
-          phases = omega arith;
-          going = λ q. absurd (omega arith);
+          going = λ q. absurd (zero_one (cc));
           closed = λ _. rw a.text_stands (begins_more (r.going zero) (take count l') s.sheet);
-          full = λ q. absurd (omega arith);
+          full = λ q. absurd (zero_one (cc));
         },
-        λ q. absurd (omega arith),
+        λ q. absurd (zero_one (cc)),
       )
       go (no_room p e1 e2 short) = (
         record {
@@ -158,17 +155,16 @@ module _ {job lent : List ℕ} {h : Held} {v m l : List ℕ} {at to : ℕ} {shee
           room = rw (e1, e2) r.room;
           long = rw e2 r.long;
           rest = rw (e1, e2) r.rest;
-          phases = omega arith;
-          going = λ q. absurd (omega arith);
-          closed = λ q. absurd (omega arith);
+          going = λ q. absurd (zero_one (cc));
+          closed = λ q. absurd (zero_one (cc));
           full = λ _. cut l' count e1 e2 short fit (closes s.none_goes s.sheet);
         },
-        λ q. absurd (omega arith),
+        λ q. absurd (zero_one (cc)),
       )
 
   -- the line of any turn put
-  pub next_placed : {turn : Turn} {h' g : Held} {v' m' l' sheet' : List ℕ} {x to' phase' : ℕ} → Outcome h v m (drop at job) at turn h' v' m' l' → length l' ≡ length l → g ≡ h' →
-      Placed turn at l' sheet to sheet' x to' phase' → Running job lent g v' m' l' x to' sheet' phase' × (phase' ≡ 0 → at < x)
+  pub next_placed : {turn : Turn} {h' g : Held} {v' m' l' sheet' : List ℕ} {x to' : ℕ} {phase' : Phase} → Outcome h v m (drop at job) at turn h' v' m' l' → length l' ≡ length l → g ≡ h' →
+      Placed turn at l' sheet to sheet' x to' phase' → Running job lent g v' m' l' x to' sheet' phase' × (phase' ≡ phases.Going → at < x)
   next_placed o long same-held (on used count e a p) = next_on used count e o long same-held a p
   next_placed o long same-held (ended count e a p) = let q = end_count count e o in next_close count q.0 q.1 q.2 long same-held a p
   next_placed o long same-held (stopped x count e a p) = let q = stop_count x count e o in next_close count q.0 q.1 q.2 long same-held a p
@@ -177,7 +173,7 @@ module _ {job lent : List ℕ} {h : Held} {v m l : List ℕ} {at to : ℕ} {shee
 
 -- ---- the loop
 
-pub run_start : (h : Held) (v m l job sheet : List ℕ) → Kept h v m → length l ≡ line_length → state_of h v m ≡ start → Running job sheet h v m l 0 0 sheet 0
+pub run_start : (h : Held) (v m l job sheet : List ℕ) → Kept h v m → length l ≡ line_length → state_of h v m ≡ start → Running job sheet h v m l 0 0 sheet phases.Going
 run_start h v m l job sheet k e s = record {
   kept = k;
   line_long = e;
@@ -185,27 +181,26 @@ run_start h v m l job sheet k e s = record {
   room = omega arith;
   long = refl;
   rest = refl;
-  phases = omega arith;
   going = λ _. subst (λ (x : State). Begins job 0 x []) (sym s) nothing_yet;
-  closed = λ q. absurd (omega arith);
-  full = λ q. absurd (omega arith);
+  closed = λ q. absurd (zero_one (cc));
+  full = λ q. absurd (zero_one (cc));
 }
 
-module _ {job lent : List ℕ} {h : Held} {v m l : List ℕ} {at to : ℕ} {sheet : List ℕ} {phase : ℕ}
+module _ {job lent : List ℕ} {h : Held} {v m l : List ℕ} {at to : ℕ} {sheet : List ℕ} {phase : Phase}
     (r : Running job lent h v m l at to sheet phase) where
-  pub run_whole : phase ≡ 1 → Runs job lent (ran.Whole to) sheet
+  pub run_whole : phase ≡ phases.Closed → Runs job lent (Ok to) sheet
   run_whole e = record {
-    whole = λ k q. let f : to ≡ k = cc in rw (sym f) (r.closed e);
-    full = λ k q. absurd (zero_one (cc));
+    whole = λ k q. let f : to ≡ k = ap written q in rw (sym f) (r.closed e);
+    full = λ f q. absurd (zero_one (cc));
     within = omega (arith, r.room, r.long);
     long = r.long;
     rest = r.rest;
   }
 
-  pub run_full : (phase ≡ 0 → ⊥) → (phase ≡ 1 → ⊥) → Runs job lent (ran.Full to) sheet
+  pub run_full : (phase ≡ phases.Going → ⊥) → (phase ≡ phases.Closed → ⊥) → Runs job lent (Err (record { written = to })) sheet
   run_full a b = record {
     whole = λ k q. absurd (zero_one (cc));
-    full = λ k q. let f : to ≡ k = cc in rw (sym f) (r.full (omega (arith, r.phases)));
+    full = λ f q. let e : to ≡ f.written = ap written q in rw (sym e) (r.full (else_full phase a b));
     within = omega (arith, r.room, r.long);
     long = r.long;
     rest = r.rest;

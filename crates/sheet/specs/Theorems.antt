@@ -1,10 +1,10 @@
 -- Whole jobs: a job has exactly one sheet, what run writes is that sheet, and reading in parts of any size means the same. Each theorem has one sentence.
 -- Main results: job_sheet; run_writes, run_short, run_exactly; parts_sheet, sheet_parts, parts_same; prefix_performs.
-use Rattle.std.specs.Prelude.{◌≡◌, refl, ◌↔◌, ◌⊎◌, Bool, false, List, [], ◌++◌, ℕ, ◌≤◌, ◌<◌, length, get_or, take, drop}
+use Rattle.std.specs.Prelude.{◌≡◌, refl, ◌↔◌, ◌⊎◌, Bool, false, List, [], ◌++◌, ℕ, ◌≤◌, ◌<◌, length, get_or, take, drop, Result, Ok, Err}
 use Rattle.std.proofs.Common.{sym, ◌∙◌, ap, subst, inl, inr, ⊎_elim, arith, take-append-drop, length-take-le}
 use Rattle.refusals.proofs.RefusalLaws.{stop_or_pass}
 use Rattle.code.specs.Codewords.{Single}
-use Rattle.act.specs.declared.Held.{Held}
+use Rattle.act.specs.Acts.{Held}
 use Rattle.standing.specs.Standing.{held_check}
 use Rattle.turns.specs.Turns.{Same}
 use Rattle.turns.specs.declared.Turn.{Turn}
@@ -16,49 +16,49 @@ use Rattle.sheet.specs.Running.{Runs, written}
 use Rattle.sheet.specs.BeginsLaws.{cut_sheet}
 use Rattle.one_sheet.specs.SomeSheet.{sheet_single}
 use Rattle.one_sheet.specs.Parts.{joined, Fed, fed_sheet, sheet_fed, prefix_turns}
-use Rattle.sheet.specs.declared.Ran.{Ran}
-use Rattle.sheet.specs.declared.Ran.TheVariants.{Whole, Full}
+use Rattle.sheet.specs.declared.Full.{Full}
 
 -- a job, a list of bytes, has exactly one sheet
 pub job_sheet : (job : List ℕ) → ((i : ℕ) → get_or job i 0 < 256) → Single (Sheet 0 start job)
 job_sheet = sheet_single
 
-whole_long : {job sheet : List ℕ} {r : Ran} {sheet' x : List ℕ} → Runs job sheet r sheet' → Sheet 0 start job x → (k : ℕ) → r ≡ Whole k → (take k sheet' ≡ x) × (k ≡ length x) × (k ≤ length sheet)
+whole_long : {job sheet : List ℕ} {r : Result ℕ Full} {sheet' x : List ℕ} → Runs job sheet r sheet' → Sheet 0 start job x → (k : ℕ) → r ≡ Ok k → (take k sheet' ≡ x) × (k ≡ length x) × (k ≤ length sheet)
 whole_long {job} {sheet} {r} {sheet'} {x} p s k e =
     let same : take k sheet' ≡ x = one_sheet (p.whole k e) s in
-    let within : k ≤ length sheet = subst (λ (y : Ran). written y ≤ length sheet) e p.within in
+    let within : k ≤ length sheet = subst (λ (y : Result ℕ Full). written y ≤ length sheet) e p.within in
     let long : length (take k sheet') ≡ k = length-take-le k sheet' (omega (arith, p.long)) in
     (same, sym long ∙ ap length same, within)
 
 -- where the lent sheet is long enough for the job's sheet, run writes that sheet at its front, answers its length, and keeps what stands past it
-pub run_writes : {job sheet : List ℕ} {r : Ran} {sheet' x : List ℕ} → Runs job sheet r sheet' → Sheet 0 start job x → length x ≤ length sheet →
-    (r ≡ Whole (length x)) × (sheet' ≡ x ++ drop (length x) sheet)
+pub run_writes : {job sheet : List ℕ} {r : Result ℕ Full} {sheet' x : List ℕ} → Runs job sheet r sheet' → Sheet 0 start job x → length x ≤ length sheet →
+    (r ≡ Ok (length x)) × (sheet' ≡ x ++ drop (length x) sheet)
 run_writes {job} {sheet} {r} {sheet'} {x} p s fits = go r refl
   where
-    go : (y : Ran) → r ≡ y → (r ≡ Whole (length x)) × (sheet' ≡ x ++ drop (length x) sheet)
-    go (Whole k) e =
+    go : (y : Result ℕ Full) → r ≡ y → (r ≡ Ok (length x)) × (sheet' ≡ x ++ drop (length x) sheet)
+    go (Ok k) e =
         let w = whole_long p s k e in
-        let past : drop k sheet' ≡ drop k sheet = subst (λ (y : Ran). drop (written y) sheet' ≡ drop (written y) sheet) e p.rest in (
-          e ∙ ap Whole w.1,
+        let past : drop k sheet' ≡ drop k sheet = subst (λ (y : Result ℕ Full). drop (written y) sheet' ≡ drop (written y) sheet) e p.rest in (
+          e ∙ ap Ok w.1,
           sym (take-append-drop k sheet') ∙ ap (λ y. y ++ drop k sheet') w.0 ∙ ap (λ y. x ++ y) past ∙ ap (λ n. x ++ drop n sheet) w.1,
         )
-    go (Full k) e = let q = (cut_sheet (p.full k e) s).0 in absurd (omega arith)
+    go (Err f) e = let q = (cut_sheet (p.full f e) s).0 in absurd (omega arith)
 
--- where it is too short, run answers Full, and the lines that it writes are the first of the job's sheet
-pub run_short : {job sheet : List ℕ} {r : Ran} {sheet' x : List ℕ} → Runs job sheet r sheet' → Sheet 0 start job x → length sheet < length x →
-    (k : ℕ) × (r ≡ Full k) × (take k sheet' ≡ take k x)
+-- where it is too short, run answers with the error Full, and the lines that it writes are the first of the job's sheet
+pub run_short : {job sheet : List ℕ} {r : Result ℕ Full} {sheet' x : List ℕ} → Runs job sheet r sheet' → Sheet 0 start job x → length sheet < length x →
+    (f : Full) × (r ≡ Err f) × (take f.written sheet' ≡ take f.written x)
 run_short {job} {sheet} {r} {sheet'} {x} p s short = go r refl
   where
-    go : (y : Ran) → r ≡ y → (k : ℕ) × (r ≡ Full k) × (take k sheet' ≡ take k x)
-    go (Whole k) e = let w = whole_long p s k e in absurd (omega (arith, w.1, w.2))
-    go (Full k) e =
-        let within : k ≤ length sheet = subst (λ (y : Ran). written y ≤ length sheet) e p.within in
+    go : (y : Result ℕ Full) → r ≡ y → (f : Full) × (r ≡ Err f) × (take f.written sheet' ≡ take f.written x)
+    go (Ok k) e = let w = whole_long p s k e in absurd (omega (arith, w.1, w.2))
+    go (Err f) e =
+        let k = f.written in
+        let within : k ≤ length sheet = subst (λ (y : Result ℕ Full). written y ≤ length sheet) e p.within in
         let long : length (take k sheet') ≡ k = length-take-le k sheet' (omega (arith, p.long)) in
-        let q : take (length (take k sheet')) x ≡ take k sheet' = (cut_sheet (p.full k e) s).1 in
-        (k, e, sym q ∙ ap (λ n. take n x) long)
+        let q : take (length (take k sheet')) x ≡ take k sheet' = (cut_sheet (p.full f e) s).1 in
+        (f, e, sym q ∙ ap (λ n. take n x) long)
 
--- run answers Whole exactly where the job's sheet fits the lent one
-pub run_exactly : {job sheet : List ℕ} {r : Ran} {sheet' x : List ℕ} → Runs job sheet r sheet' → Sheet 0 start job x → ((k : ℕ) × (r ≡ Whole k)) ↔ (length x ≤ length sheet)
+-- run answers Ok exactly where the job's sheet fits the lent one
+pub run_exactly : {job sheet : List ℕ} {r : Result ℕ Full} {sheet' x : List ℕ} → Runs job sheet r sheet' → Sheet 0 start job x → ((k : ℕ) × (r ≡ Ok k)) ↔ (length x ≤ length sheet)
 run_exactly {x = x} p s = (λ w. let l = whole_long p s w.0 w.1 in omega (arith, l.1, l.2), λ h. (length x, (run_writes p s h).0))
 
 -- however the job is cut, its lines are the sheet of the whole

@@ -6,22 +6,24 @@ ghost use Rattle.std.specs.Prelude.{◌≡◌, List, ℕ, ◌<◌, length};
 ghost use Rattle.lines.specs.Lines.{line_length};
 ghost use Rattle.act.specs.Acts.{Kept, state_of};
 ghost use Rattle.turns.specs.Sheets as sheets;
+ghost use Rattle.putting.specs.declared.Phase.TheVariants as phase;
 ghost use Rattle.sheet.specs.Running.{Runs, Running};
 
-use act::{BLOCK, Held, MARKS};
+use act::{BLOCK, MARKS};
 use job::perform;
 use lines::LINE;
-use putting::{Reached, put_turn};
+use plan::Plan;
+use putting::{Phase, Reached, put_turn};
 use turns::start;
 
-// Whole: the sheet's length. Full: the lent sheet is too short; the length of the lines that fitted.
-#[derive(Clone, Copy)]
-pub enum Ran {
-    Whole(usize),
-    Full(usize),
+// The lent sheet is too short; the length of the lines that fitted.
+#[derive(Clone, Copy, Debug, PartialEq, Eq)]
+pub struct Full {
+    pub written: usize,
 }
 
-pub fn run(job: &[u8], sheet: &mut [u8]) -> Ran
+// The sheet's length.
+pub fn run(job: &[u8], sheet: &mut [u8]) -> Result<usize, Full>
     ensures { Runs job.now sheet.old result sheet.new }
 {
     let mut block = [0u8; BLOCK];
@@ -38,13 +40,13 @@ pub fn run(job: &[u8], sheet: &mut [u8]) -> Ran
 }
 
 fn run_all(
-    held: Held,
+    held: Option<Plan>,
     block: &mut [u8],
     marks: &mut [u8],
     line: &mut [u8],
     job: &[u8],
     sheet: &mut [u8],
-) -> Ran
+) -> Result<usize, Full>
     requires { Kept held block.old marks.old × (length line.old ≡ line_length) × (state_of held block.old marks.old ≡ sheets.start) }
     ensures { Runs job.now sheet.old result sheet.new }
 {
@@ -52,9 +54,9 @@ fn run_all(
         held,
         at: 0,
         to: 0,
-        phase: 0,
+        phase: Phase::Going,
     };
-    while here.phase == 0 {
+    while let Phase::Going = here.phase {
         here = next(
             here,
             &mut block[..],
@@ -64,10 +66,10 @@ fn run_all(
             &mut sheet[..],
         );
     }
-    if here.phase == 1 {
-        return Ran::Whole(here.to);
+    match here.phase {
+        Phase::Closed => Ok(here.to),
+        _ => Err(Full { written: here.to }),
     }
-    Ran::Full(here.to)
 }
 
 // One command: its turn, and its line put on the sheet.
@@ -79,8 +81,8 @@ fn next(
     job: &[u8],
     sheet: &mut [u8],
 ) -> Reached
-    requires { ((x : List ℕ) × Running job.now x here.held block.old marks.old line.old here.at here.to sheet.old here.phase) × (here.phase ≡ 0) }
-    ensures { ((x : List ℕ) → Running job.now x here.held block.old marks.old line.old here.at here.to sheet.old here.phase → Running job.now x result.held block.new marks.new line.new result.at result.to sheet.new result.phase) × (result.phase ≡ 0 → here.at < result.at) }
+    requires { ((x : List ℕ) × Running job.now x here.held block.old marks.old line.old here.at here.to sheet.old here.phase) × (here.phase ≡ phase.Going) }
+    ensures { ((x : List ℕ) → Running job.now x here.held block.old marks.old line.old here.at here.to sheet.old here.phase → Running job.now x result.held block.new marks.new line.new result.at result.to sheet.new result.phase) × (result.phase ≡ phase.Going → here.at < result.at) }
 {
     let held = here.held;
     let at = here.at;

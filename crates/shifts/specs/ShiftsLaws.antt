@@ -1,14 +1,16 @@
 -- The laws of a plan's shifts: the array one shift longer, its length and its first entries; the test of each shift.
-use Rattle.std.specs.Prelude.{◌≡◌, refl, true, false, ◌&&◌, ltb, take, drop, set, replicate}
+use Rattle.std.specs.Prelude.{◌≡◌, refl, true, ◌&&◌, ltb, take, drop, set, replicate, reverse, fold, Bool}
 use Rattle.std.proofs.Math.Path.{sym, ap, ap₂}
-use Rattle.std.proofs.Common.{◌∙◌, subst, pow-suc, le_of_eq, add-one, length-append, drop_of_length-le, drop-cons, take_at, take-suc, take_all, length-take-le, ltb-true, lt-ltb, le-ltb}
+use Rattle.std.proofs.Common.{◌∙◌, subst, pow-suc, add-one, length-append, take_at, ltb-true, lt-ltb}
 use mathlib.Core.List.{List, [], ◌∷◌, ◌++◌, map, map-append}
 use Prim.Native.Nat.{ℕ, zero, suc, ◌+◌, ◌-◌, ◌*◌, ◌%◌, ◌^◌, ◌<◌, ◌≤◌}
 use native.Mathlib.Omega.{arith}
 use Rattle.std.proofs.Math.Nat.{mod-mod}
 use Rattle.std.proofs.Math.ListN.{length, get_or}
-use Rattle.std.proofs.lemmas.List.{length-replicate, length-map, set_at}
+use Rattle.std.proofs.lemmas.List.{length-replicate, length-map, set_at, drop-replicate, reverse-append}
 use Rattle.std.proofs.Math.Seq.{append_snoc}
+use Rattle.std.proofs.lemmas.List.Sums.{fold_push}
+use Rattle.std.specs.List.{list_all}
 use Rattle.math.specs.Gcd.{gcd, gcd_all, gap}
 use Rattle.math.proofs.Residues.{mod_mul_congr}
 use Rattle.math.specs.Members.{up_to}
@@ -48,16 +50,12 @@ padded_more xs ys i v e h g =
     let z : 32 - length (xs ++ (v ∷ [])) ≡ 31 - i = simp length-append (omega arith) in
     simp (s, z, append_snoc) (set_at xs 0 _ v i e))
 
--- one turn of each loop that fills an array, and the end of the loop that copies
-pub copied_more : (s : List ℕ) {a : List ℕ} (i v : ℕ) → a ≡ padded (take i s) → v ≡ get_or s i 0 → i < length s → i < 32 → set a i v ≡ padded (take (i + 1) s)
-copied_more s i v e g h small =
-    ap (λ (l : List ℕ). set l i v) e
-    ∙ padded_more (take i s) (take (i + 1) s) i v (length-take-le i s (omega arith)) small
-    (ap (λ (k : ℕ). take k s) (add-one i) ∙ take-suc s i 0 h ∙ ap (λ (x : ℕ). take i s ++ (x ∷ [])) (sym g))
+-- the shifts copied to the front of the array of zeros
+pub copied_whole : (s : List ℕ) {front : List ℕ} → front ≡ s → length s ≤ 32 → front ++ drop (length s) (replicate 32 0) ≡ padded s
+unfolding padded
+copied_whole s e h = ap₂ ◌++◌ e (drop-replicate (length s) 32 0)
 
-pub copied_done : (s : List ℕ) {a : List ℕ} (i : ℕ) → a ≡ padded (take i s) → length s ≤ i → a ≡ padded s
-copied_done s i e h = e ∙ ap padded (take_all i s h)
-
+-- one turn of each loop that fills an array
 pub counting_more : {a : List ℕ} (i : ℕ) → a ≡ padded (up_to i) → i < 32 → set a i i ≡ padded (up_to (i + 1))
 counting_more i e h =
     ap (λ (l : List ℕ). set l i i) e
@@ -76,21 +74,11 @@ power_more q t i x e =
     ∙ mod_mul_congr t (q ^ i % t) (q ^ i) (q % t) q (mod-mod (q ^ i) t) (mod-mod q t)
     ∙ ap (λ (y : ℕ). y % t) (sym (pow-suc q i) ∙ ap (λ (k : ℕ). q ^ k) (sym (add-one i)))
 
--- the test from i on, and the three ways of a turn: a shift that is not below, one that is, none left
-all_below_at : (t : ℕ) (s : List ℕ) (i : ℕ) → i < length s → all_below t (drop i s) ≡ (ltb (get_or s i 0) t && all_below t (drop (i + 1) s))
+-- the test of every shift
+pub list_all_below : (t : ℕ) (s : List ℕ) → list_all (λ p. ltb p t) s ≡ all_below t s
 unfolding all_below
-all_below_at t s i h = rw (add-one, drop-cons s i 0 h)
-
-module _ (t : ℕ) (s : List ℕ) (i : ℕ) (e : all_below t s ≡ all_below t (drop i s)) where
-  pub test_stops : {v : ℕ} → v ≡ get_or s i 0 → i < length s → t ≤ v → false ≡ all_below t s
-  test_stops g h stop = sym (e ∙ all_below_at t s i h ∙ simp (le-ltb (get_or s i 0) t (omega arith)))
-
-  pub test_goes_on : {v : ℕ} → v ≡ get_or s i 0 → i < length s → v < t → all_below t s ≡ all_below t (drop (i + 1) s)
-  test_goes_on g h on = e ∙ all_below_at t s i h ∙ simp (lt-ltb (get_or s i 0) t (omega arith))
-
-  pub test_ends : length s ≤ i → true ≡ all_below t s
-  unfolding all_below
-  test_ends h = sym (e ∙ ap (λ (l : List ℕ). all_below t l) (drop_of_length-le s h))
+list_all_below t [] = refl
+list_all_below t (p ∷ ps) = ap (λ (b : Bool). ltb p t && b) (list_all_below t ps)
 
 -- what the test says of each shift
 pub all_below_below : (t : ℕ) (s : List ℕ) → all_below t s ≡ true → (j : ℕ) → j < length s → get_or s j 0 < t
@@ -104,34 +92,15 @@ unfolding all_below
 below_all_below t [] f = refl
 below_all_below t (p ∷ ps) f = simp (lt-ltb p t (f 0 (omega arith)), below_all_below t ps (λ j h. f (suc j) (omega arith)))
 
--- the differences one by one
-gaps_at : (s : List ℕ) (i : ℕ) → i < length s → get_or (gaps s) i 0 ≡ gap (get_or s i 0) (get_or s 0 0)
+-- the divisor of t and the differences, taken from the last shift to the first
+fold_gaps : (t first : ℕ) (s : List ℕ) → fold (λ g p. gcd ((p - first) + (first - p)) g) t (reverse s) ≡ gcd_all t (map (λ p. gap p first) s)
+unfolding gcd_all gap
+fold_gaps t first [] = refl
+fold_gaps t first (p ∷ ps) =
+    ap (fold (λ g p. gcd ((p - first) + (first - p)) g) t) (reverse-append (p ∷ []) ps)
+    ∙ fold_push (λ g p. gcd ((p - first) + (first - p)) g) t (reverse ps) p
+    ∙ ap (gcd ((p - first) + (first - p))) (fold_gaps t first ps)
+
+pub divisor_fold : (t first : ℕ) (s : List ℕ) → first ≡ get_or s 0 0 → fold (λ g p. gcd ((p - first) + (first - p)) g) t (reverse s) ≡ gcd_all t (gaps s)
 unfolding gaps
-gaps_at s i h = go (λ p. gap p (get_or s 0 0)) s i h
-  where
-    go : (f : ℕ → ℕ) (l : List ℕ) (i : ℕ) → i < length l → get_or (map f l) i 0 ≡ f (get_or l i 0)
-    go f [] i h = absurd (omega arith)
-    go f (x ∷ xs) zero h = refl
-    go f (x ∷ xs) (suc i) h = go f xs i (omega arith)
-
-length_gaps : (s : List ℕ) → length (gaps s) ≡ length s
-unfolding gaps
-length_gaps s = length-map s (λ p. gap p (get_or s 0 0))
-
--- the divisor of t and the differences from i on: none, one turn of the loop that goes down, and its end
-module _ (t : ℕ) (s : List ℕ) where
-  pub divisor_none : t ≡ gcd_all t (drop (length s) (gaps s))
-  unfolding gcd_all
-  divisor_none = sym (ap (λ (l : List ℕ). gcd_all t l) (drop_of_length-le (gaps s) (le_of_eq (length_gaps s))))
-
-  pub divisor_more : {x y z i g : ℕ} → x ≡ get_or s (i - 1) 0 → y ≡ get_or s 0 0 → z ≡ gap x y → 0 < i → i ≤ length s → g ≡ gcd_all t (drop i (gaps s))
-      → gcd z g ≡ gcd_all t (drop (i - 1) (gaps s))
-  unfolding gcd_all
-  divisor_more {x} {y} {z} {i} {g} hx hy hz low high e =
-      let l = length_gaps s in
-      let h : i - 1 < length (gaps s) = omega arith in
-      let k : suc (i - 1) ≡ i = omega arith in
-      let d = gaps_at s (i - 1) (omega arith) in
-      let first : get_or (gaps s) (i - 1) 0 ≡ z = d ∙ ap₂ gap (sym hx) (sym hy) ∙ sym hz in
-      let rest : gcd_all t (drop (suc (i - 1)) (gaps s)) ≡ g = ap (λ (m : ℕ). gcd_all t (drop m (gaps s))) k ∙ sym e in
-      sym (ap (λ (l : List ℕ). gcd_all t l) (drop-cons (gaps s) (i - 1) 0 h) ∙ ap₂ gcd first rest)
+divisor_fold t first s e = fold_gaps t first s ∙ ap (λ (x : ℕ). gcd_all t (map (λ p. gap p x) s)) e

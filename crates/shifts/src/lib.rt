@@ -4,7 +4,7 @@
 
 ghost use Rattle.std.specs.Prelude.{◌≡◌, map, ◌+◌, ◌*◌, ◌^◌, ◌%◌, ◌<◌, ◌≤◌, length};
 ghost use Rattle.math.specs.Members.{up_to};
-ghost use Rattle.math.specs.Gcd.{gcd as gcdOf, gap as gap_of, gcd_all};
+ghost use Rattle.math.specs.Gcd.{gcd as gcdOf, gcd_all};
 ghost use Rattle.bounds.specs.Bounds.{max_n, max_t, all_below};
 ghost use Rattle.shifts.specs.Shifts.{padded, gaps};
 
@@ -12,20 +12,7 @@ ghost use Rattle.shifts.specs.Shifts.{padded, gaps};
 pub fn all_below(s: &[u16], t: usize) -> bool
     ensures { result ≡ all_below t s.now }
 {
-    let mut i = 0;
-    while i < s.len() {
-        if t <= wide(s[i]) {
-            return false;
-        }
-        i += 1;
-    }
-    true
-}
-
-pub fn wide(x: u16) -> usize
-    ensures { result ≡ x }
-{
-    x as usize
+    s.iter().all(|p| usize::from(*p) < t)
 }
 
 pub fn copied(s: &[u16]) -> [u16; 32]
@@ -33,11 +20,7 @@ pub fn copied(s: &[u16]) -> [u16; 32]
     ensures { result ≡ padded s.now }
 {
     let mut a = [0u16; 32];
-    let mut i = 0;
-    while i < s.len() {
-        a[i] = s[i];
-        i += 1;
-    }
+    a[..s.len()].copy_from_slice(s);
     a
 }
 
@@ -46,10 +29,8 @@ pub fn counting(n: usize) -> [u16; 32]
     ensures { result ≡ padded (up_to n) }
 {
     let mut a = [0u16; 32];
-    let mut i = 0;
-    while i < n {
+    for i in 0..n {
         a[i] = i as u16;
-        i += 1;
     }
     a
 }
@@ -62,11 +43,9 @@ pub fn powers(n: usize, t: usize, q: usize) -> [u16; 32]
     let mut a = [0u16; 32];
     let base = q % t;
     let mut power = 1 % t;
-    let mut i = 0;
-    while i < n {
+    for i in 0..n {
         a[i] = power as u16;
         power = power * base % t;
-        i += 1;
     }
     a
 }
@@ -85,25 +64,12 @@ pub fn gcd(a: usize, b: usize) -> usize
     x
 }
 
-// The difference of two numbers, whichever is the larger.
-pub fn gap(a: usize, b: usize) -> usize
-    ensures { result ≡ gap_of a b }
-{
-    if a < b {
-        return b - a;
-    }
-    a - b
-}
-
-// g of 01: the greatest common divisor of t and the differences to the first shift.
+// g of 01: the greatest common divisor of t and the differences to the first shift, taken from the last shift on. With no shift it is t.
 pub fn divisor(t: usize, s: &[u16]) -> usize
     ensures { result ≡ gcd_all t (gaps s.now) }
 {
-    let mut g = t;
-    let mut i = s.len();
-    while 0 < i {
-        i -= 1;
-        g = gcd(gap(wide(s[i]), wide(s[0])), g);
-    }
-    g
+    let first = s.first().copied().unwrap_or(0);
+    s.iter()
+        .rev()
+        .fold(t, |g, p| gcd(usize::from(p.abs_diff(first)), g))
 }

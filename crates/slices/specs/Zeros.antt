@@ -1,9 +1,10 @@
 -- That every number of a list is 0 (all_zero), and the loop that tests it.
--- Main results: all_zero_at, at_all_zero; gathers_none, gathers_more, gathers_all.
-use Rattle.std.specs.Prelude.{◌≡◌, refl, Bool, true, ◌&&◌, List, [], ◌∷◌, ℕ, zero, suc, ◌+◌, ◌≤◌, ◌<◌, eqb, length, get_or}
-use Rattle.std.proofs.Common.{sym, ◌∙◌, true≢false, arith, below_more, eqb-true, eq-eqb, ne_eqb}
+-- Main results: all_zero_at, at_all_zero; or_all_zero; gathers_none, gathers_more, gathers_all.
+use Rattle.std.specs.Prelude.{◌≡◌, refl, Bool, true, ◌&&◌, List, [], ◌∷◌, ℕ, zero, suc, ◌+◌, ◌≤◌, ◌<◌, eqb, length, get_or, fold}
+use Rattle.std.proofs.Common.{sym, ◌∙◌, ap, true≢false, arith, below_more, eqb-true, eq-eqb, ne_eqb}
 use Rattle.std.specs.Int.Bits.{bit_or, or_add_and, or_zero_l}
-use Rattle.std.proofs.lemmas.Nat.{and_le_l, and_le_r}
+use Rattle.std.proofs.lemmas.Nat.{and_le_l, and_le_r, le_or_l}
+use Rattle.std.proofs.Math.Bool.{and_assoc, and-true}
 use Rattle.math.specs.MembersLaws.{by_test}
 
 -- every number of the list is 0
@@ -43,3 +44,18 @@ gathers_all {l} {i} {acc} g h =
     by_test (all_zero l)
     (λ t. eq-eqb acc 0 (g.zero (λ k _. all_zero_at l t k)) ∙ sym t)
     (λ f. ne_eqb acc 0 (λ e. true≢false (sym (at_all_zero l (λ k m. g.zeros e k (omega arith))) ∙ f)) ∙ sym f)
+
+-- an or is 0 where both numbers are
+or_zero : (a x : ℕ) → eqb (bit_or a x) 0 ≡ (eqb a 0 && eqb x 0)
+or_zero zero x = ap (λ (y : ℕ). eqb y 0) (or_zero_l x)
+or_zero (suc a) x =
+    ne_eqb (bit_or (suc a) x) 0 (λ e. omega (arith, le_or_l (suc a) x)) ∙ sym (ap (λ (b : Bool). b && eqb x 0) (ne_eqb (suc a) 0 (λ e. omega arith)))
+
+-- the or of a list is 0 where each of its numbers is
+or_from : (l : List ℕ) (a : ℕ) → eqb (fold bit_or a l) 0 ≡ (eqb a 0 && all_zero l)
+unfolding all_zero
+or_from [] a = sym (and-true (eqb a 0))
+or_from (x ∷ l) a = or_from l (bit_or a x) ∙ ap (λ (b : Bool). b && all_zero l) (or_zero a x) ∙ and_assoc (eqb a 0) (eqb x 0) (all_zero l)
+
+pub or_all_zero : (l : List ℕ) → eqb (fold bit_or 0 l) 0 ≡ all_zero l
+or_all_zero l = or_from l 0

@@ -5,12 +5,18 @@
 ghost use Rattle.std.specs.Prelude.{◌≡◌};
 ghost use Rattle.standing.specs.Standing.{buffers_fit, state_check, held_check};
 
-use act::{BLOCK, Held, MARKS};
+use act::{BLOCK, MARKS};
 use calls::check_lent;
 use lines::LINE;
-use refusals::Check;
+use plan::Plan;
+use refusals::Refusal;
 
-pub fn check_held(held: Held, block: &[u8], marks: &[u8], line: &[u8]) -> Check
+pub fn check_held(
+    held: Option<Plan>,
+    block: &[u8],
+    marks: &[u8],
+    line: &[u8],
+) -> Result<(), Refusal>
     ensures { result ≡ held_check held block.now marks.now line.now }
 {
     let fits = buffers_fit(block, marks, line);
@@ -18,18 +24,14 @@ pub fn check_held(held: Held, block: &[u8], marks: &[u8], line: &[u8]) -> Check
 }
 
 // With no plan there are no places, and so no spare bits. `fits`: every lent buffer has its length.
-pub fn check_state(held: Held, fits: bool, marks: &[u8]) -> Check
+pub fn check_state(held: Option<Plan>, fits: bool, marks: &[u8]) -> Result<(), Refusal>
     ensures { result ≡ state_check held fits marks.now }
 {
-    let plan = held.plan;
-    let planned = held.planned;
-    if !planned {
+    let Some(plan) = held else {
         return check_lent(fits, 0, marks);
-    }
-    match plan.check() {
-        Check::Stop(x) => Check::Stop(x),
-        Check::Pass => check_lent(fits, plan.n * plan.t, marks),
-    }
+    };
+    plan.check()?;
+    check_lent(fits, plan.n * plan.t, marks)
 }
 
 // Whether the buffers have their lengths.

@@ -1,9 +1,7 @@
 -- What refuses a command on a state (01, "What is turned away": "In a job: 7, 8, 9, then the others").
-use Rattle.std.specs.Prelude.{Bool, true, false, ◌&&◌, ◌+◌, ◌*◌, leb, ltb}
-use Rattle.refusals.specs.Refusals.{unless, ◌then◌}
+use Rattle.std.specs.Prelude.{Bool, true, false, ◌&&◌, ◌+◌, ◌*◌, leb, ltb, Ok}
+use Rattle.refusals.specs.Refusals.{unless, ◌then◌, test_of, Check}
 use Rattle.refusals.specs.declared.Refusal.TheVariants.{Early, Shift}
-use Rattle.refusals.specs.declared.Check.{Check}
-use Rattle.refusals.specs.declared.Check.TheVariants.{Pass}
 use Rattle.plan.specs.Plans.{blank_of, straight_of, powers_of, ruler_of}
 use Rattle.commands.specs.declared.Command.{Command}
 use Rattle.commands.specs.declared.Command.TheVariants.{NewPlan, SetShift, SetSymbol, MarkOne, MarkRun, Recover, Seal, Show, Figures, Straight, Powers, Ruler, Fetch}
@@ -31,16 +29,16 @@ makes_plan Fetch = false
 
 -- what refuses a command on a state
 unfoldable pub refusal_of : State → Command → Check
-refusal_of s (NewPlan n t) = (blank_of n t).answer
+refusal_of s (NewPlan n t) = test_of (blank_of n t)
 refusal_of s (SetShift j p) = early s.planned (ltb j s.plan.n) (unless (ltb p s.plan.t) Shift)
-refusal_of s (SetSymbol c v) = early s.planned (ltb c (s.plan.n * s.plan.t)) Pass
-refusal_of s (MarkOne c) = early s.planned (ltb c (s.plan.n * s.plan.t)) Pass
-refusal_of s (MarkRun c m) = early s.planned (leb (c + m) (s.plan.n * s.plan.t)) Pass
-refusal_of s Recover = early s.planned true Pass
-refusal_of s Seal = early s.planned true Pass
-refusal_of s (Show c) = early s.planned (ltb c (s.plan.n * s.plan.t)) Pass
-refusal_of s Figures = early s.planned true Pass
-refusal_of s (Straight n t) = (straight_of n t).answer
-refusal_of s (Powers n t q) = (powers_of n t q).answer
-refusal_of s (Ruler n) = (ruler_of n).answer
-refusal_of s Fetch = early s.planned true Pass
+refusal_of s (SetSymbol c v) = early s.planned (ltb c (s.plan.n * s.plan.t)) (Ok tt)
+refusal_of s (MarkOne c) = early s.planned (ltb c (s.plan.n * s.plan.t)) (Ok tt)
+refusal_of s (MarkRun c m) = early s.planned (leb (c + m) (s.plan.n * s.plan.t)) (Ok tt)
+refusal_of s Recover = early s.planned true (Ok tt)
+refusal_of s Seal = early s.planned true (Ok tt)
+refusal_of s (Show c) = early s.planned (ltb c (s.plan.n * s.plan.t)) (Ok tt)
+refusal_of s Figures = early s.planned true (Ok tt)
+refusal_of s (Straight n t) = test_of (straight_of n t)
+refusal_of s (Powers n t q) = test_of (powers_of n t q)
+refusal_of s (Ruler n) = test_of (ruler_of n)
+refusal_of s Fetch = early s.planned true (Ok tt)

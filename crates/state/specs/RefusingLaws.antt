@@ -1,19 +1,22 @@
 -- The tests of a place and of a run with no product, and the cases of what refuses a command.
--- Main results: inside_none, inside_some, within_none, within_some; early_no_plan, early_outside, early_inside; refusal_by.
-use Rattle.std.specs.Prelude.{◌≡◌, refl, Bool, true, false, not, ℕ, suc, ◌-◌, ◌*◌, ◌/◌, ◌≤◌, ◌<◌, leb, ltb, []}
-use Rattle.std.proofs.Common.{sym, ◌∙◌, ap, div-lt_iff_lt-mul, le-div_iff_mul-le, mul_comm, arith, lt-ltb, le-ltb}
+-- Main results: inside_none, inside_some, within_none, within_some; early_no_plan, early_outside, early_inside; refusal_by, refusal_held, refusal_none, none_early, passes_planned.
+use Rattle.std.specs.Prelude.{◌≡◌, refl, Bool, true, false, not, ℕ, suc, ◌-◌, ◌*◌, ◌/◌, ◌≤◌, ◌<◌, leb, ltb, [], Result, Ok, Err, Option, None, Some, is_some}
+use Rattle.std.proofs.Common.{true≢false, sym, ◌∙◌, ap, div-lt_iff_lt-mul, le-div_iff_mul-le, mul_comm, arith, lt-ltb, le-ltb}
 use Rattle.std.proofs.Math.Logic.{by_cases}
 use Rattle.std.proofs.Math.Decide.{dec_lt}
 use Rattle.std.proofs.Math.Dec.{leb-zero}
 use Rattle.std.proofs.lemmas.Bool.{not-true, not-false}
+use Rattle.refusals.proofs.RefusalLaws.{number_once, answer_not_stop}
+use Rattle.refusals.specs.declared.Refusal.{Refusal}
 use Rattle.refusals.specs.declared.Refusal.TheVariants.{Early}
-use Rattle.refusals.specs.declared.Check.{Check}
-use Rattle.refusals.specs.declared.Check.TheVariants.{Stop}
+use Rattle.refusals.specs.Refusals.{Check, check_number}
+use Rattle.std.specs.Option.{unwrap_or, ok_or}
+use Rattle.plan.specs.Plans.{no_plan}
 use Rattle.plan.specs.declared.Plan.{Plan}
 use Rattle.commands.specs.declared.Command.{Command}
 use Rattle.commands.specs.declared.Command.TheVariants.{NewPlan, SetShift, SetSymbol, MarkOne, MarkRun, Recover, Seal, Show, Figures, Straight, Powers, Ruler, Fetch}
 use Rattle.state.specs.State.{State}
-use Rattle.state.specs.Refusing.{early, refusal_of}
+use Rattle.state.specs.Refusing.{early, makes_plan, refusal_of}
 
 pub inside_none : (n t c : ℕ) → n ≡ 0 → false ≡ ltb c (n * t)
 inside_none n t c e = rw e (sym (le-ltb c (0 * t) (omega arith)))
@@ -32,11 +35,11 @@ pub within_some : (x e : ℕ) → (e ≡ 0 → ⊥) → ltb (e - 1) x ≡ leb e 
 within_some x e h = let f : suc (e - 1) ≡ e = omega arith in ap (λ y. leb y x) f
 
 module _ (planned inside : Bool) (other : Check) where
-  pub early_no_plan : not planned ≡ true → Stop Early ≡ early planned inside other
+  pub early_no_plan : not planned ≡ true → Err Early ≡ early planned inside other
   unfolding early
   early_no_plan h = rw (not-true planned h)
 
-  pub early_outside : not planned ≡ false → inside ≡ false → Stop Early ≡ early planned inside other
+  pub early_outside : not planned ≡ false → inside ≡ false → Err Early ≡ early planned inside other
   unfolding early
   early_outside h i = rw (not-false planned h, i)
 
@@ -69,3 +72,42 @@ refusal_same s a p Fetch e f = rw e
 pub refusal_by : (planned : Bool) (plan : Plan) {c k : Command} {r : Check} → c ≡ k → r ≡ refusal_of (bare planned plan) k →
     (s : State) → s.planned ≡ planned → s.plan ≡ plan → r ≡ refusal_of s c
 refusal_by planned plan {c} {k} {r} e h s f g = h ∙ sym (ap (refusal_of (bare planned plan)) e) ∙ refusal_same s planned plan c f g
+
+-- the same by the plan that is held, or none
+pub refusal_held : {held : Option Plan} {plan : Plan} {c k : Command} {r : Check} → held ≡ Some plan → c ≡ k → r ≡ refusal_of (bare true plan) k →
+    (s : State) → s.planned ≡ is_some held → s.plan ≡ unwrap_or held no_plan → r ≡ refusal_of s c
+refusal_held {held} {plan} q e h s f g =
+    refusal_by true plan e h s (f ∙ ap is_some q) (g ∙ ap (λ (x : Option Plan). unwrap_or x no_plan) q)
+
+-- with no plan every command that makes none is early
+pub refusal_none : (s : State) (c : Command) → makes_plan c ≡ false → s.planned ≡ false → Err Early ≡ refusal_of s c
+unfolding makes_plan refusal_of early
+refusal_none s (NewPlan n t) m e = absurd (true≢false m)
+refusal_none s (SetShift j p) m e = rw e refl
+refusal_none s (SetSymbol k v) m e = rw e refl
+refusal_none s (MarkOne k) m e = rw e refl
+refusal_none s (MarkRun k n) m e = rw e refl
+refusal_none s Recover m e = rw e refl
+refusal_none s Seal m e = rw e refl
+refusal_none s (Show k) m e = rw e refl
+refusal_none s Figures m e = rw e refl
+refusal_none s (Straight n t) m e = absurd (true≢false m)
+refusal_none s (Powers n t q) m e = absurd (true≢false m)
+refusal_none s (Ruler n) m e = absurd (true≢false m)
+refusal_none s Fetch m e = rw e refl
+
+-- what stands for no plan is early
+pub none_early : (held : Option Plan) {x : Refusal} → ◌≡◌ {A = Result Plan Refusal} (Err x) (ok_or held Early) → x ≡ Early
+none_early None {x} e = number_once x Early (ap check_number e)
+none_early (Some p) {x} e = absurd (answer_not_stop x (sym e))
+
+-- so a command that makes no plan and is not refused has one
+pub passes_planned : (s : State) (c : Command) → makes_plan c ≡ false → refusal_of s c ≡ Ok tt → s.planned ≡ true
+passes_planned s c m e = by_planned s.planned refl
+  where
+    not_early : ◌≡◌ {A = Check} (Ok tt) (Err Early) → ⊥
+    not_early q = let z : 0 ≡ 9 = ap check_number q in omega (arith, z)
+
+    by_planned : (b : Bool) → s.planned ≡ b → s.planned ≡ true
+    by_planned true p = p
+    by_planned false p = absurd (not_early (sym e ∙ sym (refusal_none s c m p)))

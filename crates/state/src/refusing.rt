@@ -1,14 +1,15 @@
 // What refuses a command, by the plan alone: one function per test. Nothing here can wrap, whatever the plan says.
-ghost use Rattle.std.specs.Prelude.{◌≡◌, true, false, ◌+◌, ◌*◌, leb, ltb};
+ghost use Rattle.std.specs.Prelude.{◌≡◌, true, false, ◌+◌, ◌*◌, leb, ltb, Ok, is_some};
 ghost use Rattle.refusals.specs.Refusals.{unless};
-ghost use Rattle.refusals.specs.declared.Check.TheVariants as check;
+ghost use Rattle.std.specs.Option.{unwrap_or};
+ghost use Rattle.plan.specs.Plans.{no_plan};
 ghost use Rattle.refusals.specs.declared.Refusal.TheVariants as refusals;
 ghost use Rattle.state.specs.State.{State};
 ghost use Rattle.state.specs.Refusing.{makes_plan, early, refusal_of};
 
 use commands::Command;
 use plan::Plan;
-use refusals::{Check, Refusal};
+use refusals::Refusal;
 
 // Whether a command makes a plan.
 pub fn makes_plan(command: Command) -> bool
@@ -23,77 +24,56 @@ pub fn makes_plan(command: Command) -> bool
     }
 }
 
-// A command that makes no plan: one that makes a plan is refused with its plan.
-pub fn refusal(planned: bool, plan: Plan, command: Command) -> Check
+// A command that makes no plan: one that makes a plan is refused with its plan. Each but these needs a plan.
+pub fn refusal(held: Option<Plan>, command: Command) -> Result<(), Refusal>
     requires { makes_plan command ≡ false }
-    ensures { (s : State) → s.planned ≡ planned → s.plan ≡ plan → result ≡ refusal_of s command }
+    ensures { (s : State) → s.planned ≡ is_some held → s.plan ≡ unwrap_or held no_plan → result ≡ refusal_of s command }
 {
-    let sections = plan.n;
-    let symbols = plan.t;
+    let plan = held.ok_or(Refusal::Early)?;
+    let n = plan.n;
+    let t = plan.t;
     match command {
-        Command::SetShift { j, p } => shift(planned, sections, symbols, j as usize, p as usize),
-        Command::SetSymbol { c, v: _ } => place(planned, sections, symbols, c as usize),
-        Command::MarkOne { c } => place(planned, sections, symbols, c as usize),
-        Command::MarkRun { c, m } => run(planned, sections, symbols, c as usize + m as usize),
-        Command::Recover => no_plan(planned),
-        Command::Seal => no_plan(planned),
-        Command::Show { c } => place(planned, sections, symbols, c as usize),
-        Command::Figures => no_plan(planned),
-        Command::Fetch => no_plan(planned),
-        _ => Check::Pass,
+        Command::SetShift { j, p } => shift(n, t, j as usize, p as usize),
+        Command::SetSymbol { c, v: _ } => place(n, t, c as usize),
+        Command::MarkOne { c } => place(n, t, c as usize),
+        Command::MarkRun { c, m } => run(n, t, c as usize + m as usize),
+        Command::Show { c } => place(n, t, c as usize),
+        _ => Ok(()),
     }
 }
 
-fn no_plan(planned: bool) -> Check
-    ensures { result ≡ early planned true check.Pass }
+fn shift(n: usize, t: usize, j: usize, p: usize) -> Result<(), Refusal>
+    ensures { result ≡ early true (ltb j n) (unless (ltb p t) refusals.Shift) }
 {
-    if planned {
-        return Check::Pass;
-    }
-    Check::Stop(Refusal::Early)
-}
-
-fn shift(planned: bool, n: usize, t: usize, j: usize, p: usize) -> Check
-    ensures { result ≡ early planned (ltb j n) (unless (ltb p t) refusals.Shift) }
-{
-    if !planned {
-        return Check::Stop(Refusal::Early);
-    }
     if n <= j {
-        return Check::Stop(Refusal::Early);
+        return Err(Refusal::Early);
     }
     if t <= p {
-        return Check::Stop(Refusal::Shift);
+        return Err(Refusal::Shift);
     }
-    Check::Pass
+    Ok(())
 }
 
-fn place(planned: bool, n: usize, t: usize, c: usize) -> Check
-    ensures { result ≡ early planned (ltb c (n * t)) check.Pass }
+fn place(n: usize, t: usize, c: usize) -> Result<(), Refusal>
+    ensures { result ≡ early true (ltb c (n * t)) (Ok tt) }
 {
-    if !planned {
-        return Check::Stop(Refusal::Early);
-    }
     if !inside(n, t, c) {
-        return Check::Stop(Refusal::Early);
+        return Err(Refusal::Early);
     }
-    Check::Pass
+    Ok(())
 }
 
 // The run's end is handed over.
-fn run(planned: bool, n: usize, t: usize, end: usize) -> Check
-    ensures { result ≡ early planned (leb end (n * t)) check.Pass }
+fn run(n: usize, t: usize, end: usize) -> Result<(), Refusal>
+    ensures { result ≡ early true (leb end (n * t)) (Ok tt) }
 {
-    if !planned {
-        return Check::Stop(Refusal::Early);
-    }
     if end == 0 {
-        return Check::Pass;
+        return Ok(());
     }
     if !inside(n, t, end - 1) {
-        return Check::Stop(Refusal::Early);
+        return Err(Refusal::Early);
     }
-    Check::Pass
+    Ok(())
 }
 
 // c is below n × t, with no product.

@@ -1,13 +1,13 @@
 -- Courses put together, and the course of one turn.
 -- Main results: course_none, course_full, course_quick, course_both, window_appends, course_turn.
-use Rattle.std.specs.Prelude.{◌≡◌, refl, ◌≢◌, Bool, true, false, List, [], ◌++◌, ℕ, ◌+◌, ◌-◌, ◌*◌, ◌^◌, ◌≤◌, ◌<◌}
+use Rattle.std.specs.Prelude.{Some, ◌⊎◌, is_some, ◌≡◌, refl, ◌≢◌, Bool, true, false, List, [], ◌++◌, ℕ, ◌+◌, ◌-◌, ◌*◌, ◌^◌, ◌≤◌, ◌<◌, Ok}
+use Rattle.plan.specs.declared.Plan.{Plan}
 use Rattle.std.proofs.Common.{sym, ◌∙◌, ap, subst, inl, inr, append_assoc, append-nil, arith}
 use Rattle.std.proofs.Math.Logic.{by_cases}
 use lib.ListN.{length, get_or, take, drop, length-drop, length-append}
 use lib.Seq.{take_at, take_all, drop_at, drop-drop, length-take-le}
 use Rattle.refusals.proofs.RefusalLaws.{dec_pass}
 use Rattle.refusals.specs.declared.Refusal.{Refusal}
-use Rattle.refusals.specs.declared.Check.TheVariants.{Pass}
 use Rattle.pieces.specs.Pieces.{Appends}
 use Rattle.pieces.specs.PiecesLaws.{appends_none, appends_both}
 use Rattle.commands.specs.Commands.{size_of, parsed, parsed_check}
@@ -17,8 +17,7 @@ use Rattle.commands.specs.declared.Parsed.TheVariants.{Whole, Unknown, Short, No
 use Rattle.lines.specs.Lines.{line, end_word, line_length, Wrote}
 use Rattle.state.specs.State.{State}
 use Rattle.state.specs.Refusing.{refusal_of}
-use Rattle.act.specs.Acts.{state_of, Kept}
-use Rattle.act.specs.declared.Held.{Held}
+use Rattle.act.specs.Acts.{state_of, Kept, Held, held_plan}
 use Rattle.turns.specs.Sheets as sheets
 use Rattle.turns.specs.Sheets.{Sheet, refused_line}
 use Rattle.turns.specs.Turns.{turn_used, turn_wrote, Same, Goes, Turns}
@@ -30,11 +29,13 @@ use Rattle.one_sheet.proofs.PerformedLaws.{performed_one, performed_both}
 use Rattle.quick.specs.Quick.{Quick}
 use Rattle.quick.specs.QuickLaws.{appends_room}
 use Rattle.stream.specs.Course.{halt_of, Waits, Closes, Course}
+use Rattle.stream.specs.declared.Halt.{Halt}
+use Rattle.stream.specs.declared.Halt.TheVariants as halts
 
 -- ---- none, and several
 
 module _ (b : List ℕ) (last : Bool) (o : ℕ) (h : Held) (v m : List ℕ) (at : ℕ) (l : List ℕ) (to : ℕ) (k : Kept h v m) (i : at ≤ length b) (r : to ≤ length l) where
-  pub course_none : Course b last o h v m at l to h v m at l to 0
+  pub course_none : Course b last o h v m at l to h v m at l to halts.On
   course_none = record {
     text = [];
     said = [];
@@ -44,14 +45,13 @@ module _ (b : List ℕ) (last : Bool) (o : ℕ) (h : Held) (v m : List ℕ) (at 
     forwards = omega arith;
     inside = i;
     room = r;
-    halts = omega arith;
-    input = λ e. absurd (omega arith);
-    full = λ e. absurd (omega arith);
-    closed = λ e. absurd (omega arith);
+    input = λ e. absurd (zero_one (cc));
+    full = λ e. absurd (zero_one (cc));
+    closed = λ e. absurd (zero_one (cc));
     quiet = λ _. refl;
   }
 
-  pub course_full : length l - to < line_length → Course b last o h v m at l to h v m at l to 2
+  pub course_full : length l - to < line_length → Course b last o h v m at l to h v m at l to halts.Room
   course_full f = record {
     text = [];
     said = [];
@@ -61,15 +61,14 @@ module _ (b : List ℕ) (last : Bool) (o : ℕ) (h : Held) (v m : List ℕ) (at 
     forwards = omega arith;
     inside = i;
     room = r;
-    halts = omega arith;
-    input = λ e. absurd (omega arith);
+    input = λ e. absurd (zero_one (cc));
     full = λ e. omega arith;
-    closed = λ e. absurd (omega arith);
+    closed = λ e. absurd (zero_one (cc));
     quiet = λ _. refl;
   }
 
 pub course_quick : {b : List ℕ} {h : Held} {v m : List ℕ} {at : ℕ} {l : List ℕ} {to : ℕ} {v' m' : List ℕ} {at' : ℕ} {l' : List ℕ} {to' : ℕ} (last : Bool) (o : ℕ) →
-    Kept h v m → h.planned ≡ true → Quick (h.plan.n * h.plan.t) b v m at l to v' m' at' l' to' → Course b last o h v m at l to h v' m' at' l' to' 0
+    Kept h v m → is_some h ≡ true → Quick ((held_plan h).n * (held_plan h).t) b v m at l to v' m' at' l' to' → Course b last o h v m at l to h v' m' at' l' to' halts.On
 course_quick {l = l} {to} {l' = l'} {to'} last o k p q =
     let w = q.went _ (record { planned = p; of = refl; kept = k }) in
     record {
@@ -81,18 +80,23 @@ course_quick {l = l} {to} {l' = l'} {to'} last o k p q =
       forwards = q.forwards;
       inside = q.inside;
       room = q.room;
-      halts = omega arith;
-      input = λ e. absurd (omega arith);
-      full = λ e. absurd (omega arith);
-      closed = λ e. absurd (omega arith);
+      input = λ e. absurd (zero_one (cc));
+      full = λ e. absurd (zero_one (cc));
+      closed = λ e. absurd (zero_one (cc));
       quiet = λ _. refl;
     }
 
-pub course_both : {b : List ℕ} {last : Bool} {o : ℕ} {h : Held} {v m : List ℕ} {at : ℕ} {l : List ℕ} {to : ℕ} {h' : Held} {v' m' : List ℕ} {at' : ℕ} {l' : List ℕ} {to' halt : ℕ}
-    {h'' : Held} {v'' m'' : List ℕ} {at'' : ℕ} {l'' : List ℕ} {to'' halt' : ℕ} → halt ≡ 0 →
+-- the same by the plan that is held
+pub course_planned : {b : List ℕ} (last : Bool) (o : ℕ) {held : Held} {plan : Plan} {v m : List ℕ} {at : ℕ} {l : List ℕ} {to : ℕ} {v' m' : List ℕ} {at' : ℕ} {l' : List ℕ} {to' : ℕ} →
+    held ≡ Some plan → Kept held v m → Quick (plan.n * plan.t) b v m at l to v' m' at' l' to' → Course b last o held v m at l to held v' m' at' l' to' halts.On
+course_planned {b} last o {held} {plan} {v} {m} {at} {l} {to} {v'} {m'} {at'} {l'} {to'} e k q =
+    subst (λ (h : Held). Course b last o h v m at l to h v' m' at' l' to' halts.On) (sym e) (course_quick last o (subst (λ (h : Held). Kept h v m) e k) refl q)
+
+pub course_both : {b : List ℕ} {last : Bool} {o : ℕ} {h : Held} {v m : List ℕ} {at : ℕ} {l : List ℕ} {to : ℕ} {h' : Held} {v' m' : List ℕ} {at' : ℕ} {l' : List ℕ} {to' : ℕ} {halt : Halt}
+    {h'' : Held} {v'' m'' : List ℕ} {at'' : ℕ} {l'' : List ℕ} {to'' : ℕ} {halt' : Halt} → halt ≡ halts.On →
     Course b last o h v m at l to h' v' m' at' l' to' halt → Course b last o h' v' m' at' l' to' h'' v'' m'' at'' l'' to'' halt' → Course b last o h v m at l to h'' v'' m'' at'' l'' to'' halt'
 course_both {l = l} {to} {l' = l'} {to'} {l'' = l''} {to''} z x y =
-    let q : x.said ≡ [] = x.quiet (λ e. omega arith) in
+    let q : x.said ≡ [] = x.quiet (λ e. zero_one (cc)) in
     let w : Appends l to x.text l' to' = subst (λ t. Appends l to t l' to') (ap (λ s. x.text ++ s) q ∙ append-nil x.text) x.wrote in
     let long = x.wrote.long in
     record {
@@ -104,7 +108,6 @@ course_both {l = l} {to} {l' = l'} {to'} {l'' = l''} {to''} z x y =
       forwards = omega (arith, x.forwards, y.forwards);
       inside = y.inside;
       room = omega (arith, y.room);
-      halts = y.halts;
       input = y.input;
       full = λ e. omega (arith, y.full e);
       closed = y.closed;
@@ -145,8 +148,8 @@ window_appends l to most {text} {l'} {count} e fit w =
 closes_unknown : {last : Bool} {o : ℕ} {s : State} {b : List ℕ} → parsed b ≡ Unknown → Closes last o s b (refused_line (parsed_check Unknown) o)
 closes_unknown {b = b} e = record { none_goes = λ c f. absurd (zero_one (cc)); sheet = λ later _. sheets.unknown (parsed_prefix b later (λ q. zero_one (cc)) (λ q. zero_one (cc)) ∙ e) }
 
-closes_refused : {last : Bool} {o : ℕ} {s : State} {b : List ℕ} (c : Command) → parsed b ≡ Whole c → refusal_of s c ≢ Pass → Closes last o s b (refused_line (refusal_of s c) o)
-closes_refused {s = s} {b} c e n = record { none_goes = λ d f. let q : c ≡ d = cc in subst (λ (x : Command). refusal_of s x ≢ Pass) q n; sheet = λ later _. sheets.refused c (parsed_prefix b later (λ q. zero_one (cc)) (λ q. zero_one (cc)) ∙ e) n }
+closes_refused : {last : Bool} {o : ℕ} {s : State} {b : List ℕ} (c : Command) → parsed b ≡ Whole c → refusal_of s c ≢ (Ok tt) → Closes last o s b (refused_line (refusal_of s c) o)
+closes_refused {s = s} {b} c e n = record { none_goes = λ d f. let q : c ≡ d = cc in subst (λ (x : Command). refusal_of s x ≢ (Ok tt)) q n; sheet = λ later _. sheets.refused c (parsed_prefix b later (λ q. zero_one (cc)) (λ q. zero_one (cc)) ∙ e) n }
 
 closes_short : {last : Bool} {o : ℕ} {s : State} {b : List ℕ} → last ≡ true → parsed b ≡ Short → Closes last o s b (refused_line (parsed_check Short) o)
 closes_short {o = o} {s} {b} f e = record { none_goes = λ c g. absurd (zero_one (cc)); sheet = λ later z. subst (λ x. Sheet o s (b ++ x) (refused_line (parsed_check Short) o)) (sym (z f)) (subst (λ x. Sheet o s x (refused_line (parsed_check Short) o)) (sym (append-nil b)) (sheets.short e)) }
@@ -161,7 +164,7 @@ module _ (b : List ℕ) (o : ℕ) (at : ℕ) (l : List ℕ) (to most : ℕ) {h :
 
   -- the job is closed by this line
   shut : {last : Bool} {said l' : List ℕ} {count : ℕ} → Wrote (take (most - to) (drop to l)) said l' count → Closes last (o + at) (state_of h v m) (drop at b) said →
-      Course b last o h v m at l to h v m (at + 0) (take to l ++ (l' ++ drop (most - to) (drop to l))) (to + count) 3
+      Course b last o h v m at l to h v m (at + 0) (take to l ++ (l' ++ drop (most - to) (drop to l))) (to + count) halts.Closed
   shut {last} {said} {l'} {count} w z =
       let a = window_appends l to most e fit w in
       let same : at + 0 ≡ at = omega arith in
@@ -174,9 +177,8 @@ module _ (b : List ℕ) (o : ℕ) (at : ℕ) (l : List ℕ) (to most : ℕ) {h :
         forwards = omega arith;
         inside = i;
         room = appends_room a (omega arith);
-        halts = omega arith;
-        input = λ q. absurd (omega arith);
-        full = λ q. absurd (omega arith);
+        input = λ q. absurd (zero_one (cc));
+        full = λ q. absurd (zero_one (cc));
         closed = λ _. z;
         quiet = λ q. absurd (q refl);
       })
@@ -185,7 +187,7 @@ module _ (b : List ℕ) (o : ℕ) (at : ℕ) (l : List ℕ) (to most : ℕ) {h :
   abbrev Turned : Bool → Turn → Held → List ℕ → List ℕ → List ℕ → Type 0
   Turned last turn h' v' m' l' =
       Course b last o h v m at l to h' v' m' (at + turn_used turn) (take to l ++ (l' ++ drop (most - to) (drop to l))) (to + turn_wrote turn) (halt_of turn)
-      × (halt_of turn ≡ 0 → at < at + turn_used turn)
+      × (halt_of turn ≡ halts.On → at < at + turn_used turn)
 
   same_state : {last : Bool} (turn : Turn) {h' : Held} {v' m' : List ℕ} (l' : List ℕ) → Same h v m h' v' m' → Turned last turn h v m l' → Turned last turn h' v' m' l'
   same_state {last} turn {h'} {v'} {m'} l' s x =
@@ -206,24 +208,23 @@ module _ (b : List ℕ) (o : ℕ) (at : ℕ) (l : List ℕ) (to most : ℕ) {h :
           forwards = omega arith;
           inside = i;
           room = appends_room a (omega arith);
-          halts = omega arith;
           input = λ _. (q, w);
-          full = λ z. absurd (omega arith);
-          closed = λ z. absurd (omega arith);
+          full = λ z. absurd (zero_one (cc));
+          closed = λ z. absurd (zero_one (cc));
           quiet = λ _. refl;
         }),
-        λ z. absurd (omega arith),
+        λ z. absurd (zero_one (cc)),
       )
 
   turned_end : {last : Bool} {turn : Turn} {said l' : List ℕ} {count : ℕ} → turn ≡ End count → Wrote (take (most - to) (drop to l)) said l' count →
       Closes last (o + at) (state_of h v m) (drop at b) said → Turned last turn h v m l'
-  turned_end {last} {turn} {said} {l'} {count} t w z = subst (λ (y : Turn). Turned last y h v m l') (sym t) (shut w z, λ z. absurd (omega arith))
+  turned_end {last} {turn} {said} {l'} {count} t w z = subst (λ (y : Turn). Turned last y h v m l') (sym t) (shut w z, λ z. absurd (zero_one (cc)))
 
   turned_stop : {last : Bool} {turn : Turn} {said l' : List ℕ} {count : ℕ} {x : Refusal} → turn ≡ Stop x count → Wrote (take (most - to) (drop to l)) said l' count →
       Closes last (o + at) (state_of h v m) (drop at b) said → Turned last turn h v m l'
-  turned_stop {last} {turn} {said} {l'} {count} {x} t w z = subst (λ (y : Turn). Turned last y h v m l') (sym t) (shut w z, λ z. absurd (omega arith))
+  turned_stop {last} {turn} {said} {l'} {count} {x} t w z = subst (λ (y : Turn). Turned last y h v m l') (sym t) (shut w z, λ z. absurd (zero_one (cc)))
 
-  turned_on : {last : Bool} {turn : Turn} {h' : Held} {v' m' l' : List ℕ} (c : Command) → parsed (drop at b) ≡ Whole c → refusal_of (state_of h v m) c ≡ Pass →
+  turned_on : {last : Bool} {turn : Turn} {h' : Held} {v' m' l' : List ℕ} (c : Command) → parsed (drop at b) ≡ Whole c → refusal_of (state_of h v m) c ≡ Ok tt →
       Goes c (size_of (get_or (drop at b) 0 0)) h v m (take (most - to) (drop to l)) turn h' v' m' l' → Turned last turn h' v' m' l'
   turned_on {last} {turn} {h'} {v'} {m'} {l'} c p r g =
       let a = window_appends l to most e fit g.wrote in
@@ -240,10 +241,9 @@ module _ (b : List ℕ) (o : ℕ) (at : ℕ) (l : List ℕ) (to most : ℕ) {h :
           forwards = omega arith;
           inside = omega arith;
           room = appends_room a (omega arith);
-          halts = omega arith;
-          input = λ z. absurd (omega arith);
-          full = λ z. absurd (omega arith);
-          closed = λ z. absurd (omega arith);
+          input = λ z. absurd (zero_one (cc));
+          full = λ z. absurd (zero_one (cc));
+          closed = λ z. absurd (zero_one (cc));
           quiet = λ _. refl;
         },
         λ _. omega arith,
@@ -251,7 +251,7 @@ module _ (b : List ℕ) (o : ℕ) (at : ℕ) (l : List ℕ) (to most : ℕ) {h :
 
   pub course_turn : {last : Bool} {turn : Turn} {h' : Held} {v' m' l' : List ℕ} → Turns h v m (take (most - to) (drop to l)) (take (length b - at) (drop at b)) last (o + at) turn h' v' m' l' →
       Course b last o h v m at l to h' v' m' (at + turn_used turn) (take to l ++ (l' ++ drop (most - to) (drop to l))) (to + turn_wrote turn) (halt_of turn)
-      × (halt_of turn ≡ 0 → at < at + turn_used turn)
+      × (halt_of turn ≡ halts.On → at < at + turn_used turn)
   course_turn {last} {turn} {h'} {v'} {m'} {l'} whole = go (parsed (drop at b)) last refl refl
     where
       t : Turns h v m (take (most - to) (drop to l)) (drop at b) last (o + at) turn h' v' m' l'
@@ -282,3 +282,28 @@ module _ {turn : Turn} (at to : ℕ) where
 
 pub plus_none : (n : ℕ) → n ≡ n + 0
 plus_none n = omega arith
+
+-- ---- where the commands stop
+
+-- as a number, for measures
+abbrev pub halt_number : Halt → ℕ
+halt_number halts.On = 0
+halt_number halts.Input = 1
+halt_number halts.Room = 2
+halt_number halts.Closed = 3
+
+pub on_by : (x : Halt) → halt_number x ≡ 0 → x ≡ halts.On
+on_by halts.On e = refl
+on_by halts.Input e = absurd (omega (arith, e))
+on_by halts.Room e = absurd (omega (arith, e))
+on_by halts.Closed e = absurd (omega (arith, e))
+
+pub room_not_on : ◌≡◌ {A = Halt} halts.Room halts.On → ⊥
+room_not_on e = let z : 2 ≡ 0 = ap halt_number e in omega (arith, z)
+
+-- something is wanted
+pub wants : (x : Halt) → (x ≡ halts.On → ⊥) → (x ≡ halts.Closed → ⊥) → (x ≡ halts.Input) ⊎ (x ≡ halts.Room)
+wants halts.On a b = absurd (a refl)
+wants halts.Input a b = inl refl
+wants halts.Room a b = inr refl
+wants halts.Closed a b = absurd (b refl)

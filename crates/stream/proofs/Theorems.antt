@@ -1,6 +1,6 @@
 -- What a program that does what it is asked has written is the sheet of what it has read; and every call goes on.
 -- Main results: trace_sheet, trace_begins, trace_stands, trace_passes; answer_asked, always_room, always_forward, read_ends, full_lost; works_further; ask_not_eleven.
-use Rattle.std.specs.Prelude.{◌≡◌, ◌≢◌, ◌⊎◌, Bool, true, false, cond, List, [], ◌++◌, ℕ, ◌-◌, ◌≤◌, ◌<◌, min, ltb, ℤ, pos, get_or, take}
+use Rattle.std.specs.Prelude.{◌≡◌, ◌≢◌, ◌⊎◌, Bool, true, false, cond, List, [], ◌++◌, ℕ, ◌-◌, ◌≤◌, ◌<◌, min, ltb, ℤ, pos, get_or, take, Ok}
 use Rattle.std.proofs.Math.Path.{refl, ap, subst}
 use Rattle.std.proofs.Common.{sym, ◌∙◌, inl, inr, append_assoc, append-nil, arith}
 use Rattle.std.proofs.Math.Logic.{⊎_elim}
@@ -9,12 +9,10 @@ use borrow.Author.Tests.{ltb-true, ltb-false, lt-ltb, le-ltb}
 use Rattle.std.proofs.Math.ListN.{length, drop, length-drop, length-append}
 use Rattle.refusals.proofs.RefusalLaws.{not_eleven, stop_or_pass}
 use Rattle.refusals.specs.declared.Refusal.{Refusal}
-use Rattle.refusals.specs.declared.Check.TheVariants as check
 use Rattle.commands.specs.Commands.{longest}
 use Rattle.commands.specs.CommandLaws.{size_most}
 use Rattle.lines.specs.Lines.{line_length}
-use Rattle.act.specs.Acts.{block_length, marks_length}
-use Rattle.act.specs.declared.Held.{Held}
+use Rattle.act.specs.Acts.{block_length, marks_length, Held}
 use Rattle.turns.specs.Sheets.{Sheet, start}
 use Rattle.one_sheet.specs.ParsedLaws.{zero_one, nothing_empty, short_long, whole_size}
 use Rattle.one_sheet.specs.Performed.{Performed, none, first}
@@ -50,7 +48,7 @@ trace_stands {s = s} p e = (trace_holds p).stands (ask_closed s e).1
 
 -- and where the buffers have their lengths no call is refused
 pub trace_passes : {job : List ℕ} {ended : Bool} {out : List ℕ} {s : Stream} {v m l i : List ℕ} → Trace job ended out s v m l i → length v ≡ block_length → length m ≡ marks_length →
-    line_length ≤ length l → longest ≤ length i → stream_check s v m l i ≡ check.Pass
+    line_length ≤ length l → longest ≤ length i → stream_check s v m l i ≡ Ok tt
 trace_passes {s = s} {v} {m} {l} {i} p a b c d = ready_passes s v m l i ((trace_holds p).ready a b c d)
 
 -- ---- every call goes on
@@ -187,7 +185,7 @@ full_lost s i got h = rw (le-ltb s.cursor.end (length i) h) (same (lt_z got (pos
 
 -- Where the sheet has no room for the longest line, which command work stops at is its choice. What every choice has in common: the one that uses more bytes
 -- has performed the commands of the other, and goes on from its plan, block and marks.
-pub works_further : {s : Stream} {v m l i : List ℕ} {t u : Stream} {v' m' l' w n k : List ℕ} → stream_check s v m l i ≡ check.Pass → (a : Went s v m l i t v' m' l') (b : Went s v m l i u w n k) → a.used ≤ b.used →
+pub works_further : {s : Stream} {v m l i : List ℕ} {t u : Stream} {v' m' l' w n k : List ℕ} → stream_check s v m l i ≡ Ok tt → (a : Went s v m l i t v' m' l') (b : Went s v m l i u w n k) → a.used ≤ b.used →
     (rest : List ℕ) × (b.text ≡ a.text ++ rest) × Performed (hand s.cursor i) t.held v' m' a.used rest u.held w n b.used
 works_further {s} {v} {m} {l} {i} pass a b h = performed_further (stream_ready s v m l i pass).kept (omega arith) h a.performed b.performed
 

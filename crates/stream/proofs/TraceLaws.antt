@@ -1,13 +1,12 @@
 -- What holds all along of a program that does what it is asked.
 -- Main definition: Holds. Main results: trace_holds; ask_read, ask_closed, hand_moved.
-use Rattle.std.specs.Prelude.{◌≡◌, refl, ◌⊎◌, ◌≢◌, Bool, true, false, cond, ◌&&◌, not, List, [], ◌++◌, ℕ, zero, suc, ◌+◌, ◌-◌, ◌≤◌, ◌<◌, min, ltb, eqb, leb, ℤ, pos, negsuc, length, take, drop}
+use Rattle.std.specs.Prelude.{◌≡◌, refl, ◌⊎◌, ◌≢◌, Bool, true, false, cond, ◌&&◌, not, List, [], ◌++◌, ℕ, zero, suc, ◌+◌, ◌-◌, ◌≤◌, ◌<◌, min, ltb, eqb, leb, ℤ, pos, negsuc, length, take, drop, Ok}
 use Rattle.std.proofs.Common.{sym, ◌∙◌, ap, subst, inl, inr, ⊎_elim, true≢false, append_assoc, append-nil, arith, ltb-true, ltb-false, eqb-true, leb-true, length-drop, length-append, take-append-drop, drop-drop, length-take-le, take_at, take-take}
 use Rattle.math.specs.Tests.{and_left, and_right}
 use Rattle.std.proofs.lemmas.List.{drop-append-le}
 use Rattle.std.proofs.Math.Seq.{take-append-add}
 use Rattle.io.specs.Counts.{clamp_len}
 use Rattle.refusals.proofs.RefusalLaws.{stop_or_pass}
-use Rattle.refusals.specs.declared.Check.TheVariants.{Pass}
 use Rattle.commands.specs.Commands.{longest, parsed}
 use Rattle.commands.specs.declared.Command.{Command}
 use Rattle.commands.specs.declared.Parsed.TheVariants.{Whole}
@@ -127,7 +126,7 @@ module _ {job : List ℕ} {ended : Bool} {out : List ℕ} {s : Stream} {v m l i 
     stands = λ f. record {
       text = before ++ w.text;
       begins = went_begins;
-      none_goes = subst (λ x. (c : Command) → parsed (below t.cursor.offset x) ≡ Whole c → refusal_of (state_of t.held v' m') c ≢ Pass) (sym went_hand) (w.closed f).none_goes;
+      none_goes = subst (λ x. (c : Command) → parsed (below t.cursor.offset x) ≡ Whole c → refusal_of (state_of t.held v' m') c ≢ (Ok tt)) (sym went_hand) (w.closed f).none_goes;
     };
     going = λ f.
         let g = k.going e in

@@ -1,11 +1,11 @@
 -- How the library keeps what it promises of a job that is read in parts.
 -- Main definition: Ready. Main results: stream_ready, ready_passes; went_to; works_bad, works_passed; front_part, back_long; taken_filled, taken_last, taken_goes, taken_over.
-use Rattle.std.specs.Prelude.{◌≡◌, ◌≢◌, Bool, ◌&&◌, List, [], ◌∷◌, ◌++◌, ℕ, ◌+◌, ◌-◌, ◌^◌, ◌≤◌, ◌<◌, min, eqb, leb, ltb, ℤ, pos, negsuc}
+use Rattle.std.specs.Prelude.{◌≡◌, ◌≢◌, Bool, ◌&&◌, List, ◌++◌, ℕ, ◌+◌, ◌-◌, ◌^◌, ◌≤◌, ◌<◌, min, eqb, leb, ltb, ℤ, pos, negsuc, Ok, Err}
 use Rattle.std.proofs.Math.Path.{refl, sym, ap, subst}
-use Rattle.std.proofs.Common.{◌∙◌, length-take, take-append-drop, take-take, take_all, eqb-true, leb-true, ltb-true, ltb-false, eq-eqb, ne_eqb, lt-ltb, le-ltb, le-leb}
+use Rattle.std.proofs.Common.{◌∙◌, length-take, take-append-drop, take-take, take_all, eqb-true, leb-true, ltb-true, ltb-false, eq-eqb, lt-ltb, le-ltb, le-leb, ⊎_elim}
 use Rattle.std.proofs.Math.Logic.{inl, inr, by_cases}
 use Rattle.std.proofs.Math.Bool.{true, false, cond, not, true≢false}
-use Rattle.std.proofs.Math.Decide.{ℕ_discrete, dec_le}
+use Rattle.std.proofs.Math.Decide.{dec_le}
 use native.Mathlib.Omega.{arith}
 use Rattle.std.proofs.Math.ListN.{length, take, drop, length-drop}
 use Rattle.std.proofs.Math.Seq.{length-take-le}
@@ -13,12 +13,10 @@ use Rattle.std.proofs.lemmas.Bool.{lt-leb}
 use Rattle.math.specs.Tests.{and_left, and_right}
 use Rattle.io.specs.Counts.{clamp_len}
 use Rattle.refusals.specs.declared.Refusal.{Refusal}
-use Rattle.refusals.specs.declared.Check.TheVariants as check
 use Rattle.commands.specs.Commands.{longest}
 use Rattle.lines.specs.Lines.{line_length}
 use Rattle.state.specs.State.{State}
-use Rattle.act.specs.Acts.{Kept, block_length, marks_length}
-use Rattle.act.specs.declared.Held.{Held}
+use Rattle.act.specs.Acts.{Kept, block_length, marks_length, Held}
 use Rattle.standing.specs.StandingLaws.{state_passed, state_passes}
 use Rattle.reading.specs.Cursors.{hand, top_offset, reach_of}
 use Rattle.reading.specs.CursorLaws.{drop_take}
@@ -27,6 +25,9 @@ use Rattle.one_sheet.specs.ParsedLaws.{zero_one}
 use Rattle.one_sheet.specs.Performed.{Performed}
 use Rattle.one_sheet.proofs.PerformedLaws.{performed_more}
 use Rattle.stream.specs.Course.{Waits, Closes, Course}
+use Rattle.stream.specs.declared.Halt.{Halt}
+use Rattle.stream.specs.declared.Halt.TheVariants as halts
+use Rattle.stream.proofs.CourseLaws.{wants}
 use Rattle.stream.specs.Streams.{stream_fits, stream_check, phase_after, moved_of, ask_of, goes, asks_read, tidy, tidy_input, lost_of, read_of, taken_of}
 use Rattle.stream.specs.Works.{below, Went, Advances, Works}
 use Rattle.stream.specs.declared.Stream.{Stream}
@@ -45,7 +46,7 @@ pub record Ready (s : Stream) (v m l i : List ℕ) : Type 0 where
   pub inside : s.cursor.end ≤ length i
   pub waits : s.filled ≤ length l
 
-pub stream_ready : (s : Stream) (v m l i : List ℕ) → stream_check s v m l i ≡ check.Pass → Ready s v m l i
+pub stream_ready : (s : Stream) (v m l i : List ℕ) → stream_check s v m l i ≡ Ok tt → Ready s v m l i
 unfolding stream_check stream_fits
 stream_ready s v m l i e =
     let at = s.cursor.at in
@@ -73,7 +74,7 @@ stream_ready s v m l i e =
     }
 
 -- and the other way: a stream whose plan is kept and whose buffers fit passes
-pub ready_passes : (s : Stream) (v m l i : List ℕ) → Ready s v m l i → stream_check s v m l i ≡ check.Pass
+pub ready_passes : (s : Stream) (v m l i : List ℕ) → Ready s v m l i → stream_check s v m l i ≡ Ok tt
 unfolding stream_check stream_fits
 ready_passes s v m l i r =
     state_passes s.held (stream_fits s.cursor.at s.cursor.end s.filled (length v) (length m) (length l) (length i)) m r.kept
@@ -81,44 +82,37 @@ ready_passes s v m l i r =
 
 -- ---- the phase after some commands
 
-after_closed : (halt : ℕ) (cut : Bool) → phase_after halt cut ≡ Closed → halt ≡ 3
+after_closed : (halt : Halt) (cut : Bool) → phase_after halt cut ≡ Closed → halt ≡ halts.Closed
 unfolding phase_after
-after_closed halt cut e = by_cases (ℕ_discrete halt 3) (λ y. y) (λ n. absurd (no (eqb halt 1 && cut) (subst (λ b. cond b Closed (cond (eqb halt 1 && cut) Past Going) ≡ Closed) (ne_eqb halt 3 n) e)))
-  where
-    no : (b : Bool) → cond b Past Going ≡ Closed → ⊥
-    no true q = zero_one (cc)
-    no false q = zero_one (cc)
+after_closed halts.Closed cut e = refl
+after_closed halts.Input true e = absurd (zero_one (cc))
+after_closed halts.Input false e = absurd (zero_one (cc))
+after_closed halts.On cut e = absurd (zero_one (cc))
+after_closed halts.Room cut e = absurd (zero_one (cc))
 
-after_past : (halt : ℕ) (cut : Bool) → phase_after halt cut ≡ Past → (halt ≡ 1) × (cut ≡ true)
+after_past : (halt : Halt) (cut : Bool) → phase_after halt cut ≡ Past → (halt ≡ halts.Input) × (cut ≡ true)
 unfolding phase_after
-after_past halt cut e = go (eqb halt 3) (eqb halt 1) cut refl refl e
-  where
-    go : (a b c : Bool) → eqb halt 3 ≡ a → eqb halt 1 ≡ b → cond a Closed (cond (b && c) Past Going) ≡ Past → (halt ≡ 1) × (c ≡ true)
-    go true b c x y q = absurd (zero_one (cc))
-    go false false c x y q = absurd (zero_one (cc))
-    go false true false x y q = absurd (zero_one (cc))
-    go false true true x y q = (eqb-true halt 1 y, refl)
+after_past halts.Closed cut e = absurd (zero_one (cc))
+after_past halts.Input true e = (refl, refl)
+after_past halts.Input false e = absurd (zero_one (cc))
+after_past halts.On cut e = absurd (zero_one (cc))
+after_past halts.Room cut e = absurd (zero_one (cc))
 
-after_going : (halt : ℕ) (cut : Bool) → phase_after halt cut ≡ Going → (halt ≢ 3) × (halt ≡ 1 → cut ≡ false)
+after_going : (halt : Halt) (cut : Bool) → phase_after halt cut ≡ Going → (halt ≢ halts.Closed) × (halt ≡ halts.Input → cut ≡ false)
 unfolding phase_after
-after_going halt cut e = (
-  λ z. let q : cond true Closed (cond (eqb halt 1 && cut) Past Going) ≡ Going = subst (λ b. cond b Closed (cond (eqb halt 1 && cut) Past Going) ≡ Going) (eq-eqb halt 3 z) e in zero_one (cc),
-  λ z. go cut (let n : halt ≡ 3 → ⊥ = λ y. omega arith in
-      subst (λ b. cond b Closed (cond (true && cut) Past Going) ≡ Going) (ne_eqb halt 3 n) (subst (λ b. cond (eqb halt 3) Closed (cond (b && cut) Past Going) ≡ Going) (eq-eqb halt 1 z) e)),
-)
-  where
-    go : (c : Bool) → cond (true && c) Past Going ≡ Going → c ≡ false
-    go true q = absurd (zero_one (cc))
-    go false q = refl
+after_going halts.Closed cut e = absurd (zero_one (cc))
+after_going halts.Input true e = absurd (zero_one (cc))
+after_going halts.Input false e = (λ z. zero_one (cc), λ _. refl)
+after_going halts.On cut e = (λ z. zero_one (cc), λ z. absurd (zero_one (cc)))
+after_going halts.Room cut e = (λ z. zero_one (cc), λ z. absurd (zero_one (cc)))
 
-after_lost : (halt : ℕ) (cut : Bool) → phase_after halt cut ≢ Lost
+after_lost : (halt : Halt) (cut : Bool) → phase_after halt cut ≢ Lost
 unfolding phase_after
-after_lost halt cut e = go (eqb halt 3) (eqb halt 1 && cut) e
-  where
-    go : (a b : Bool) → cond a Closed (cond b Past Going) ≡ Lost → ⊥
-    go true b q = zero_one (cc)
-    go false true q = zero_one (cc)
-    go false false q = zero_one (cc)
+after_lost halts.Closed cut e = zero_one (cc)
+after_lost halts.Input true e = zero_one (cc)
+after_lost halts.Input false e = zero_one (cc)
+after_lost halts.On cut e = zero_one (cc)
+after_lost halts.Room cut e = zero_one (cc)
 
 all_below : (e a o x : ℕ) → e ≤ top_offset - o → x ≡ e - a → x ≤ top_offset - (o + a)
 all_below e a o x h f = omega arith
@@ -155,10 +149,10 @@ last_cut : (last : Bool) (n k : ℕ) → k < n → (last && leb n k) ≡ false
 last_cut true n k h = lt-leb n k h
 last_cut false n k h = refl
 
-module _ (s : Stream) (v m l i : List ℕ) (r : Ready s v m l i) {h' : Held} {v' m' : List ℕ} {at' : ℕ} {l' : List ℕ} {to' halt : ℕ} where
+module _ (s : Stream) (v m l i : List ℕ) (r : Ready s v m l i) {h' : Held} {v' m' : List ℕ} {at' : ℕ} {l' : List ℕ} {to' : ℕ} {halt : Halt} where
   -- all of them stand below the highest offset
   went_all : s.cursor.end - s.cursor.at ≤ top_offset - s.cursor.offset →
-      Course (take (s.cursor.end - s.cursor.at) (drop s.cursor.at i)) s.last s.cursor.offset s.held v m 0 l s.filled h' v' m' at' l' to' halt → (halt ≡ 0 → ⊥) →
+      Course (take (s.cursor.end - s.cursor.at) (drop s.cursor.at i)) s.last s.cursor.offset s.held v m 0 l s.filled h' v' m' at' l' to' halt → (halt ≡ halts.On → ⊥) →
       Went s v m l i (moved_of s h' at' to' halt false) v' m' l'
   unfolding hand moved_of
   went_all low c n =
@@ -178,7 +172,7 @@ module _ (s : Stream) (v m l i : List ℕ) (r : Ready s v m l i) {h' : Held} {v'
         offset = refl;
         inside = c.inside;
         last = refl;
-        going = λ e. let g = after_going halt false e in (c.quiet g.0, by_cases (ℕ_discrete halt 1) (λ y. let q = c.input y in inl (q.0, few, q.1)) (λ z. inr (c.full (let a = g.0 in let b = c.halts in omega (arith, n, z, a, b)))));
+        going = λ e. let g = after_going halt false e in (c.quiet g.0, ⊎_elim (λ y. let q = c.input y in inl (q.0, few, q.1)) (λ z. inr (c.full z)) (wants halt n g.0));
         closed = λ e. closes_same (last_all s.last (length (drop at' here)) (top_offset - (s.cursor.offset + at')) few) (take_all (top_offset - (s.cursor.offset + at')) (drop at' here) few) (c.closed (after_closed halt false e));
         past = λ e. absurd (true≢false (sym (after_past halt false e).1));
         not_lost = after_lost halt false;
@@ -186,7 +180,7 @@ module _ (s : Stream) (v m l i : List ℕ) (r : Ready s v m l i) {h' : Held} {v'
 
   -- those below the highest offset, where some stand at it or past it
   went_cut : (cut : ℕ) → cut ≡ s.cursor.at + (top_offset - s.cursor.offset) → top_offset - s.cursor.offset < s.cursor.end - s.cursor.at → s.cursor.offset ≤ top_offset →
-      Course (take (cut - s.cursor.at) (drop s.cursor.at i)) false s.cursor.offset s.held v m 0 l s.filled h' v' m' at' l' to' halt → (halt ≡ 0 → ⊥) →
+      Course (take (cut - s.cursor.at) (drop s.cursor.at i)) false s.cursor.offset s.held v m 0 l s.filled h' v' m' at' l' to' halt → (halt ≡ halts.On → ⊥) →
       Went s v m l i (moved_of s h' at' to' halt true) v' m' l'
   unfolding hand moved_of
   went_cut cut x less low c n =
@@ -219,15 +213,15 @@ module _ (s : Stream) (v m l i : List ℕ) (r : Ready s v m l i) {h' : Held} {v'
         offset = refl;
         inside = omega (arith, lh, inside, less);
         last = refl;
-        going = λ e. let g = after_going halt true e in (c.quiet g.0, inr (c.full (let a = g.0 in let b = c.halts in let d : halt ≡ 1 → ⊥ = λ y. true≢false (g.1 y) in omega (arith, n, a, b, d))));
+        going = λ e. let g = after_going halt true e in (c.quiet g.0, inr (c.full (⊎_elim (λ y. absurd (true≢false (g.1 y))) (λ z. z) (wants halt n g.0))));
         closed = λ e. closes_same (last_cut s.last (length (drop at' here)) (top_offset - (s.cursor.offset + at')) longer) under (c.closed (after_closed halt true e));
-        past = λ e. (c.quiet (λ z. let a = (after_past halt true e).0 in omega arith), longer, subst Waits (sym under) (c.input (after_past halt true e).0).1);
+        past = λ e. (c.quiet (λ z. let a = (after_past halt true e).0 in zero_one (cc)), longer, subst Waits (sym under) (c.input (after_past halt true e).0).1);
         not_lost = after_lost halt true;
       }
 
   -- those that stand below it, as far as they reach
   went_reach : (cut : Bool) → cut ≡ ltb (reach_of s.cursor) s.cursor.end → s.cursor.offset ≤ top_offset →
-      Course (take (reach_of s.cursor - s.cursor.at) (drop s.cursor.at i)) (s.last && not cut) s.cursor.offset s.held v m 0 l s.filled h' v' m' at' l' to' halt → (halt ≡ 0 → ⊥) →
+      Course (take (reach_of s.cursor - s.cursor.at) (drop s.cursor.at i)) (s.last && not cut) s.cursor.offset s.held v m 0 l s.filled h' v' m' at' l' to' halt → (halt ≡ halts.On → ⊥) →
       Went s v m l i (moved_of s h' at' to' halt cut) v' m' l'
   went_reach true e low c n =
       let less = ltb-true (reach_of s.cursor) s.cursor.end (sym e) in
@@ -250,7 +244,7 @@ module _ (s : Stream) (v m l i : List ℕ) (r : Ready s v m l i) {h' : Held} {v'
 
   -- the same, as the code says it
   pub went_to : (to : ℕ) (last : Bool) → to ≡ reach_of s.cursor → last ≡ (s.last && not (ltb to s.cursor.end)) → s.cursor.offset ≤ top_offset →
-      Course (take (to - s.cursor.at) (drop s.cursor.at i)) last s.cursor.offset s.held v m 0 l s.filled h' v' m' at' l' to' halt → (halt ≡ 0 → ⊥) →
+      Course (take (to - s.cursor.at) (drop s.cursor.at i)) last s.cursor.offset s.held v m 0 l s.filled h' v' m' at' l' to' halt → (halt ≡ halts.On → ⊥) →
       Went s v m l i (moved_of s h' at' to' halt (ltb to s.cursor.end)) v' m' l'
   went_to to last e f low c n =
       went_reach (ltb to s.cursor.end) (ap (λ q. ltb q s.cursor.end) e) low
@@ -259,13 +253,13 @@ module _ (s : Stream) (v m l i : List ℕ) (r : Ready s v m l i) {h' : Held} {v'
 
 -- ---- the whole call
 
-pub works_bad : (s : Stream) (v m l i : List ℕ) (x : Refusal) → stream_check s v m l i ≡ check.Stop x → Works s v m l i (ask.Bad x) s v m l i
+pub works_bad : (s : Stream) (v m l i : List ℕ) (x : Refusal) → stream_check s v m l i ≡ Err x → Works s v m l i (ask.Bad x) s v m l i
 works_bad s v m l i x e = record {
   bad = λ y q. let f : x ≡ y = cc in (ap ask.Bad f, refl, refl, refl, refl, refl);
   passed = λ q. absurd (zero_one (cc));
 }
 
-pub works_passed : {s : Stream} {v m l i : List ℕ} {a : Ask} {s' t : Stream} {v' m' l' i' : List ℕ} → stream_check s v m l i ≡ check.Pass → Advances s v m l i t v' m' l' →
+pub works_passed : {s : Stream} {v m l i : List ℕ} {a : Ask} {s' t : Stream} {v' m' l' i' : List ℕ} → stream_check s v m l i ≡ Ok tt → Advances s v m l i t v' m' l' →
     (a ≡ ask_of t) × (s' ≡ tidy t i) × (i' ≡ tidy_input t i) → Works s v m l i a s' v' m' l' i'
 works_passed {t = t} e d q = record {
   bad = λ x f. absurd (zero_one (cc));

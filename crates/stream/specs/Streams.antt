@@ -3,12 +3,10 @@
 use Rattle.std.specs.Prelude.{Bool, true, false, cond, ◌&&◌, not, List, ◌++◌, ℕ, ◌+◌, ◌-◌, eqb, leb, ltb, ℤ, pos, length, drop}
 use Rattle.std.specs.Int.Signed.{lt_z}
 use Rattle.io.specs.Counts.{clamp_len}
-use Rattle.refusals.specs.Refusals.{number_of}
-use Rattle.refusals.specs.declared.Check.{Check}
+use Rattle.refusals.specs.Refusals.{number_of, Check}
 use Rattle.commands.specs.Commands.{longest}
 use Rattle.lines.specs.Lines.{line_length}
-use Rattle.act.specs.Acts.{block_length, marks_length}
-use Rattle.act.specs.declared.Held.{Held}
+use Rattle.act.specs.Acts.{block_length, marks_length, Held}
 use Rattle.turns.specs.Turns.{unplanned}
 use Rattle.standing.specs.Standing.{state_check}
 use Rattle.reading.specs.Cursors.{hand, at_start, carried_of}
@@ -16,6 +14,8 @@ use Rattle.reading.specs.declared.Cursor.{Cursor}
 use Rattle.stream.specs.declared.Stream.{Stream}
 use Rattle.stream.specs.declared.Phase.{Phase}
 use Rattle.stream.specs.declared.Phase.TheVariants as phase
+use Rattle.stream.specs.declared.Halt.{Halt}
+use Rattle.stream.specs.declared.Halt.TheVariants as halts
 use Rattle.stream.specs.declared.Ask.{Ask}
 use Rattle.stream.specs.declared.Ask.TheVariants as ask
 
@@ -80,12 +80,16 @@ tidy_input s i = cond (asks_read s) (hand s.cursor i ++ drop (length (hand s.cur
 
 -- ---- after some commands
 
--- halt 3: the job is closed; 1: more bytes are wanted, which stand past the highest offset if the bytes at hand were cut there
-unfoldable pub phase_after : ℕ → Bool → Phase
-phase_after halt cut = cond (eqb halt 3) phase.Closed (cond (eqb halt 1 && cut) phase.Past phase.Going)
+-- more bytes that are wanted stand past the highest offset if the bytes at hand were cut there
+unfoldable pub phase_after : Halt → Bool → Phase
+phase_after halts.Closed cut = phase.Closed
+phase_after halts.Input true = phase.Past
+phase_after halts.Input false = phase.Going
+phase_after halts.On cut = phase.Going
+phase_after halts.Room cut = phase.Going
 
 -- `used` of the bytes at hand are used, and the sheet is filled up to `to`
-unfoldable pub moved_of : Stream → Held → ℕ → ℕ → ℕ → Bool → Stream
+unfoldable pub moved_of : Stream → Held → ℕ → ℕ → Halt → Bool → Stream
 unfolding phase_after
 moved_of s h used to halt cut = record {
   held = h;

@@ -1,8 +1,7 @@
 -- A program that does what it is asked, over any sequence of calls, reads and writes.
 -- Main definitions: Filled, ended_by, Trace; Later, Stands, Roomy, of which the theorems speak.
-use Rattle.std.specs.Prelude.{◌≡◌, ◌≢◌, Bool, true, false, List, [], ◌++◌, ℕ, zero, suc, ◌-◌, ◌≤◌, ◌<◌, ℤ, pos, negsuc, length, take, drop}
+use Rattle.std.specs.Prelude.{◌≡◌, ◌≢◌, Bool, true, false, List, [], ◌++◌, ℕ, zero, suc, ◌-◌, ◌≤◌, ◌<◌, ℤ, pos, negsuc, length, take, drop, Ok}
 use Rattle.io.specs.Counts.{clamp_len}
-use Rattle.refusals.specs.declared.Check.TheVariants.{Pass}
 use Rattle.commands.specs.Commands.{longest, parsed}
 use Rattle.commands.specs.declared.Command.{Command}
 use Rattle.commands.specs.declared.Parsed.TheVariants.{Whole}
@@ -49,7 +48,7 @@ Later ended later = ended ≡ true → later ≡ []
 pub record Stands (job : List ℕ) (s : Stream) (v m : List ℕ) : Type 0 where
   pub text : List ℕ
   pub begins : Begins job s.cursor.offset (state_of s.held v m) text
-  pub none_goes : (c : Command) → parsed (below s.cursor.offset (drop s.cursor.offset job)) ≡ Whole c → refusal_of (state_of s.held v m) c ≢ Pass
+  pub none_goes : (c : Command) → parsed (below s.cursor.offset (drop s.cursor.offset job)) ≡ Whole c → refusal_of (state_of s.held v m) c ≢ (Ok tt)
 
 -- after "more input" nothing waits, the input has not ended, and less than the longest command is at hand (at most five bytes), which stands at the front of the input
 pub record Roomy (s : Stream) (i : List ℕ) : Type 0 where

@@ -1,8 +1,7 @@
 -- What the library does with a job that is read in parts.
 -- Main definitions: below, last_below, Went, Advances, Works.
-use Rattle.std.specs.Prelude.{◌≡◌, ◌⊎◌, ◌≢◌, Bool, false, ◌&&◌, List, [], ◌++◌, ℕ, ◌+◌, ◌-◌, ◌^◌, ◌≤◌, ◌<◌, leb, length, take, drop}
+use Rattle.std.specs.Prelude.{◌≡◌, ◌⊎◌, ◌≢◌, Bool, false, ◌&&◌, List, [], ◌++◌, ℕ, ◌+◌, ◌-◌, ◌≤◌, ◌<◌, leb, length, take, drop, Ok, Err}
 use Rattle.refusals.specs.declared.Refusal.{Refusal}
-use Rattle.refusals.specs.declared.Check.TheVariants as check
 use Rattle.pieces.specs.Pieces.{Appends}
 use Rattle.lines.specs.Lines.{line_length}
 use Rattle.act.specs.Acts.{state_of, Kept}
@@ -55,6 +54,6 @@ pub record Advances (s : Stream) (v m l i : List ℕ) (s' : Stream) (v' m' l' : 
 
 -- work: what refuses the lent state leaves everything as it was; otherwise the job goes on, and then the answer is what is wanted
 pub record Works (s : Stream) (v m l i : List ℕ) (a : Ask) (s' : Stream) (v' m' l' i' : List ℕ) : Type 0 where
-  pub bad : (x : Refusal) → stream_check s v m l i ≡ check.Stop x → (a ≡ ask.Bad x) × (s' ≡ s) × (v' ≡ v) × (m' ≡ m) × (l' ≡ l) × (i' ≡ i)
-  pub passed : stream_check s v m l i ≡ check.Pass →
+  pub bad : (x : Refusal) → stream_check s v m l i ≡ Err x → (a ≡ ask.Bad x) × (s' ≡ s) × (v' ≡ v) × (m' ≡ m) × (l' ≡ l) × (i' ≡ i)
+  pub passed : stream_check s v m l i ≡ Ok tt →
       (t : Stream) × Advances s v m l i t v' m' l' × (a ≡ ask_of t) × (s' ≡ tidy t i) × (i' ≡ tidy_input t i)

@@ -5,7 +5,7 @@
 ghost use Rattle.std.specs.Prelude.{◌≡◌};
 ghost use Rattle.stream.specs.Streams.{ask_number};
 
-use act::Held;
+use plan::Plan;
 use reading::Cursor;
 use refusals::Refusal;
 
@@ -18,10 +18,19 @@ pub enum Phase {
     Lost,
 }
 
+// Where the commands at hand stop. On: they do not yet. Input: more bytes are wanted. Room: room on the sheet is. Closed: the job is closed.
+#[derive(Clone, Copy, PartialEq, Eq)]
+pub enum Halt {
+    On,
+    Input,
+    Room,
+    Closed,
+}
+
 // How far a job has come: its plan, what of the input is at hand, how much of the sheet waits to be written. `last`: the input has ended.
 #[derive(Clone, Copy)]
 pub struct Stream {
-    pub held: Held,
+    pub held: Option<Plan>,
     pub cursor: Cursor,
     pub filled: usize,
     pub phase: Phase,

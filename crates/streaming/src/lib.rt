@@ -3,8 +3,7 @@
 // Entries: opened, work, waiting, written, room, brought.
 #![tactic(auto)]
 
-ghost use Rattle.std.specs.Prelude.{◌≡◌, ◌&&◌, not, ◌+◌, ◌^◌, ◌<◌, min, length, take};
-ghost use Rattle.refusals.specs.declared.Check.TheVariants as check;
+ghost use Rattle.std.specs.Prelude.{◌≡◌, ◌&&◌, not, ◌+◌, ◌^◌, ◌<◌, min, length, take, Ok};
 ghost use Rattle.stream.specs.Streams.{opened_at, stream_fits, stream_check, ask_of, with_cursor, tidy, tidy_input, phase_after, moved_of, written_of, lost_of, read_of, taken_of, brought_of};
 ghost use Rattle.stream.specs.Works.{Advances, Went, Works};
 ghost use Rattle.stream.specs.declared.Phase.TheVariants as phase;
@@ -12,10 +11,10 @@ ghost use Rattle.stream.specs.declared.Phase.TheVariants as phase;
 use act::{BLOCK, MARKS};
 use lines::LINE;
 use progress::{Reached, perform_all};
-use reading::{Cursor, begin, carry, lower, reach};
-use refusals::Check;
+use reading::{Cursor, begin, carry, reach};
+use refusals::Refusal;
 use standing::check_state;
-use stream::{Ask, Phase, Stream, Worked};
+use stream::{Ask, Halt, Phase, Stream, Worked};
 use turns::start;
 
 mod progress;
@@ -49,11 +48,11 @@ pub fn work(
     ensures { Works stream block.old marks.old sheet.old input.old result.ask result.stream block.new marks.new sheet.new input.new }
 {
     match check_stream(stream, &block[..], &marks[..], &sheet[..], &input[..]) {
-        Check::Stop(x) => Worked {
+        Err(x) => Worked {
             ask: Ask::Bad(x),
             stream,
         },
-        Check::Pass => {
+        Ok(()) => {
             let next = advance(
                 stream,
                 &mut block[..],
@@ -67,7 +66,13 @@ pub fn work(
 }
 
 // What refuses the lent state: 1 and 2 where a plan is held, then 3, then 4.
-fn check_stream(stream: Stream, block: &[u8], marks: &[u8], sheet: &[u8], input: &[u8]) -> Check
+fn check_stream(
+    stream: Stream,
+    block: &[u8],
+    marks: &[u8],
+    sheet: &[u8],
+    input: &[u8],
+) -> Result<(), Refusal>
     ensures { result ≡ stream_check stream block.now marks.now sheet.now input.now }
 {
     let cursor = stream.cursor;
@@ -125,7 +130,7 @@ fn advance(
     sheet: &mut [u8],
     input: &[u8],
 ) -> Stream
-    requires { stream_check stream block.old marks.old sheet.old input.now ≡ check.Pass }
+    requires { stream_check stream block.old marks.old sheet.old input.now ≡ Ok tt }
     ensures { Advances stream block.old marks.old sheet.old input.now result block.new marks.new sheet.new }
 {
     let phase = stream.phase;
@@ -145,7 +150,7 @@ fn go_on(
     sheet: &mut [u8],
     input: &[u8],
 ) -> Stream
-    requires { (stream_check stream block.old marks.old sheet.old input.now ≡ check.Pass) × (stream.phase ≡ phase.Going) }
+    requires { (stream_check stream block.old marks.old sheet.old input.now ≡ Ok tt) × (stream.phase ≡ phase.Going) }
     ensures { Went stream block.old marks.old sheet.old input.now result block.new marks.new sheet.new }
 {
     let held = stream.held;
@@ -197,19 +202,15 @@ fn moved(stream: Stream, here: Reached, cut: bool) -> Stream
     }
 }
 
-fn phase_after(halt: u8, cut: bool) -> Phase
+#[tactic(auto, unfolding(stream::specs::Streams::phase_after))]
+fn phase_after(halt: Halt, cut: bool) -> Phase
     ensures { result ≡ phase_after halt cut }
 {
-    if halt == 3 {
-        return Phase::Closed;
+    match halt {
+        Halt::Closed => Phase::Closed,
+        Halt::Input if cut => Phase::Past,
+        _ => Phase::Going,
     }
-    if halt != 1 {
-        return Phase::Going;
-    }
-    if cut {
-        return Phase::Past;
-    }
-    Phase::Going
 }
 
 // What is wanted; before a read the bytes at hand are moved to the front.
@@ -265,7 +266,7 @@ fn with_cursor(stream: Stream, cursor: Cursor) -> Stream
 pub fn waiting(stream: Stream, sheet: &[u8]) -> &[u8]
     ensures { result.now ≡ take stream.filled sheet.now }
 {
-    let filled = lower(stream.filled, sheet.len());
+    let filled = stream.filled.min(sheet.len());
     &sheet[..filled]
 }
 
@@ -293,7 +294,7 @@ pub fn room(stream: Stream, input: &[u8]) -> usize
     ensures { result ≡ min stream.cursor.end (length input.now) }
 {
     let cursor = stream.cursor;
-    lower(cursor.end, input.len())
+    cursor.end.min(input.len())
 }
 
 // After a read from there on: the number of bytes that it put there, 0 at the end of the input, below 0 if it failed. Where there was no room, 0 is not the end.

@@ -3,25 +3,27 @@ ghost use Rattle.std.specs.Prelude.{◌≡◌, Bool, ℕ, ◌+◌, ◌*◌, ◌^
 ghost use Rattle.act.specs.Acts.{Kept};
 ghost use Rattle.turns.specs.Turns.{turn_used, turn_wrote};
 ghost use Rattle.stream.specs.Course.{halt_of, Course};
+ghost use Rattle.stream.specs.declared.Halt.TheVariants as halt;
 
-use act::Held;
 use job::take_turn;
 use lines::LINE;
+use plan::Plan;
 use quick::{Passed, quick};
+use stream::Halt;
 use turns::{Step, Turn};
 
-// How far the commands were performed and the sheet is filled, and the plan then. halt 0: more may follow; 1: more bytes are wanted; 2: room on the sheet is; 3: the job is closed.
+// How far the commands were performed and the sheet is filled, and the plan then.
 #[derive(Clone, Copy)]
 pub struct Reached {
-    pub held: Held,
+    pub held: Option<Plan>,
     pub at: usize,
     pub to: usize,
-    pub halt: u8,
+    pub halt: Halt,
 }
 
 // `last`: no more bytes come. `offset`: where the bytes stand in the job.
 pub fn perform_all(
-    held: Held,
+    held: Option<Plan>,
     block: &mut [u8],
     marks: &mut [u8],
     sheet: &mut [u8],
@@ -31,15 +33,15 @@ pub fn perform_all(
     offset: u64,
 ) -> Reached
     requires { Kept held block.old marks.old × (filled ≤ length sheet.old) × (offset + length bytes.now < 2 ^ 64) }
-    ensures { Course bytes.now last offset held block.old marks.old 0 sheet.old filled result.held block.new marks.new result.at sheet.new result.to result.halt × (result.halt ≡ 0 → ⊥) }
+    ensures { Course bytes.now last offset held block.old marks.old 0 sheet.old filled result.held block.new marks.new result.at sheet.new result.to result.halt × (result.halt ≡ halt.On → ⊥) }
 {
     let mut here = Reached {
         held,
         at: 0,
         to: filled,
-        halt: 0,
+        halt: Halt::On,
     };
-    while here.halt == 0 {
+    while let Halt::On = here.halt {
         here = next(
             here,
             &mut block[..],
@@ -64,7 +66,7 @@ fn next(
     offset: u64,
 ) -> Reached
     requires { Kept here.held block.old marks.old × (here.to ≤ length sheet.old) × (here.at ≤ length bytes.now) × (offset + length bytes.now < 2 ^ 64) }
-    ensures { Course bytes.now last offset here.held block.old marks.old here.at sheet.old here.to result.held block.new marks.new result.at sheet.new result.to result.halt × (result.halt ≡ 0 → here.at < result.at) }
+    ensures { Course bytes.now last offset here.held block.old marks.old here.at sheet.old here.to result.held block.new marks.new result.at sheet.new result.to result.halt × (result.halt ≡ halt.On → here.at < result.at) }
 {
     let held = here.held;
     let went = quickly(
@@ -91,7 +93,7 @@ fn next(
 
 // Without a plan there is none of them.
 fn quickly(
-    held: Held,
+    held: Option<Plan>,
     block: &mut [u8],
     marks: &mut [u8],
     sheet: &mut [u8],
@@ -100,19 +102,17 @@ fn quickly(
     at: usize,
 ) -> Passed
     requires { Kept held block.old marks.old × (to ≤ length sheet.old) × (at ≤ length bytes.now) }
-    ensures { (last : Bool) (o : ℕ) → Course bytes.now last o held block.old marks.old at sheet.old to held block.new marks.new result.at sheet.new result.to 0 }
+    ensures { (last : Bool) (o : ℕ) → Course bytes.now last o held block.old marks.old at sheet.old to held block.new marks.new result.at sheet.new result.to halt.On }
 {
-    let planned = held.planned;
-    if !planned {
+    let Some(plan) = held else {
         return Passed { at, to };
-    }
-    let plan = held.plan;
+    };
     quick(plan.n * plan.t, block, marks, bytes, at, sheet, to)
 }
 
 // One turn, if there is room for its line.
 fn turn(
-    held: Held,
+    held: Option<Plan>,
     block: &mut [u8],
     marks: &mut [u8],
     sheet: &mut [u8],
@@ -123,14 +123,14 @@ fn turn(
     offset: u64,
 ) -> Reached
     requires { Kept held block.old marks.old × (to ≤ length sheet.old) × (at ≤ length bytes.now) × (offset + length bytes.now < 2 ^ 64) }
-    ensures { Course bytes.now last offset held block.old marks.old at sheet.old to result.held block.new marks.new result.at sheet.new result.to result.halt × (result.halt ≡ 0 → at < result.at) }
+    ensures { Course bytes.now last offset held block.old marks.old at sheet.old to result.held block.new marks.new result.at sheet.new result.to result.halt × (result.halt ≡ halt.On → at < result.at) }
 {
     if sheet.len() - to < LINE {
         return Reached {
             held,
             at,
             to,
-            halt: 2,
+            halt: Halt::Room,
         };
     }
     let most = to + LINE;
@@ -158,31 +158,31 @@ fn after_turn(step: Step, at: usize, to: usize) -> Reached
             held,
             at: at + used,
             to: to + count,
-            halt: 0,
+            halt: Halt::On,
         },
         Turn::Wait => Reached {
             held,
             at,
             to,
-            halt: 1,
+            halt: Halt::Input,
         },
         Turn::End(count) => Reached {
             held,
             at,
             to: to + count,
-            halt: 3,
+            halt: Halt::Closed,
         },
         Turn::Stop(_, count) => Reached {
             held,
             at,
             to: to + count,
-            halt: 3,
+            halt: Halt::Closed,
         },
         Turn::Bad(_) => Reached {
             held,
             at,
             to,
-            halt: 3,
+            halt: Halt::Closed,
         },
     }
 }

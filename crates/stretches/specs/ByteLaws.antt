@@ -7,7 +7,6 @@ use Rattle.std.proofs.Math.Logic.{by_cases}
 use Prim.Native.Nat.{ℕ, zero, suc, ◌+◌, ◌-◌, ◌*◌, ◌/◌, ◌%◌, ◌^◌, ◌≤◌, ◌<◌}
 use Rattle.std.proofs.Math.Decide.{ℕ_discrete}
 use Rattle.std.specs.Int.Count.{ones, ones_in, ones_step}
-use Rattle.std.proofs.lemmas.Nat.{ones-le}
 use Rattle.std.proofs.Math.ListN.{get_or}
 use Rattle.std.proofs.Math.Pow.{field, mod-mod-pow, shr_mod}
 use Rattle.code.specs.Codewords.{bit_of}
@@ -101,7 +100,3 @@ none_marked m a e c h l =
     let z = eqb-true (mark_count m a (8 * length m - a)) 0 e in
     let s : a + (c - a) ≡ c = omega arith in
     ap (mark m) (sym s) ∙ count_none m a (8 * length m - a) z (c - a) (omega arith)
-
--- a byte has at most 8
-pub byte_ones : {x : ℕ} → x < 256 → ones x ≤ 8
-byte_ones {x} h = ones-le 8 x h

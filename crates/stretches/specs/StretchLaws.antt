@@ -1,12 +1,11 @@
 -- A stretch of places, cut into the rest of its first byte, whole bytes and the front of its last byte; its marks counted and tested by these parts.
 -- Main results: count_places, none_places (what the count and the test say, place by place); count_bytes, zero_bytes; count_parts; none_first, none_middle, none_last.
 use Rattle.std.specs.Prelude.{◌≡◌, refl, ◌≢◌, ◌↔◌, Bool, true, false, List, ℕ, ◌+◌, ◌-◌, ◌*◌, ◌/◌, ◌%◌, ◌^◌, ◌≤◌, ◌<◌, eqb, length, get_or, take, drop}
-use Rattle.std.proofs.Common.{sym, ◌∙◌, ap, subst, true≢false, mod-lt, mod-eq_of_lt, arith, length-drop, pow_pos, get_or-take, get_or-drop, length-take-le, eq-eqb, ne_eqb, eqb-true}
+use Rattle.std.proofs.Common.{sym, ◌∙◌, ap, subst, true≢false, mod-lt, arith, length-drop, pow_pos, get_or-take, get_or-drop, length-take-le, eq-eqb, ne_eqb, eqb-true}
 use Rattle.std.proofs.Math.Logic.{by_cases}
 use Rattle.std.proofs.Math.Nat.{zero-div}
 use Rattle.std.proofs.Math.Decide.{ℕ_discrete}
 use Rattle.std.specs.Int.Count.{ones}
-use Rattle.std.proofs.Math.ListN.{get_or-eq_default}
 use Rattle.std.proofs.Math.Pow.{field}
 use Rattle.std.proofs.lemmas.Nat.{shl-shr}
 use Rattle.math.specs.Members.{keep, from}
@@ -98,14 +97,6 @@ pub low_bits : (x k : ℕ) → k ≤ 8 → x * 2 ^ (8 - k) % 2 ^ 8 / 2 ^ (8 - k)
 low_bits x k h =
     let e : 8 ≡ k + (8 - k) = omega arith in
     ap (λ w. x * 2 ^ (8 - k) % 2 ^ w / 2 ^ (8 - k)) e ∙ field (x * 2 ^ (8 - k)) k (8 - k) ∙ ap (λ y. y % 2 ^ k) (shl-shr x (8 - k))
-
-pub no_bits : (x k : ℕ) → k ≡ 0 → 0 ≡ x % 2 ^ k
-no_bits x k e = let z : 0 ≡ x % 1 = omega arith in z ∙ ap (λ w. x % 2 ^ w) (sym e)
-
--- there are none past the last byte
-pub past_bits : (m : List ℕ) (i b k : ℕ) → length m ≤ i → 0 ≡ get_or m i 0 / 2 ^ b % 2 ^ k
-past_bits m i b k h =
-    sym (ap (λ x. x / 2 ^ b % 2 ^ k) (get_or-eq_default m 0 {n = i} h) ∙ ap (λ x. x % 2 ^ k) (zero-div (2 ^ b)) ∙ mod-eq_of_lt (pow_pos k))
 
 -- ---- a stretch in parts
 

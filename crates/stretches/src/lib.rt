@@ -67,11 +67,9 @@ fn ones_in(marks: &[u8], i: usize, n: usize) -> usize
     requires { (i + n ≤ length marks.now) × (8 * n < 2 ^ 64) }
     ensures { (result ≡ mark_count marks.now (8 * i) (8 * n)) × (result ≤ 8 * n) }
 {
-    let mut sum: usize = 0;
-    let mut j = 0;
-    while j < n {
-        sum += ones_of(marks[i + j]);
-        j += 1;
+    let mut sum = 0;
+    for byte in &marks[i..i + n] {
+        sum += ones_of(*byte);
     }
     sum
 }
@@ -79,7 +77,7 @@ fn ones_in(marks: &[u8], i: usize, n: usize) -> usize
 fn ones_of(x: u8) -> usize
     ensures { (result ≡ ones x) × (result ≤ 8) }
 {
-    u8::count_ones(x) as usize
+    x.count_ones() as usize
 }
 
 // How a stretch lies in the bytes: so many places in the byte where it begins, then whole bytes from byte `next` on, then so many places of the byte after these.
@@ -94,20 +92,11 @@ struct Cut {
 fn cut_of(a: usize, k: usize) -> Cut
     ensures { Cuts a k result.first result.next result.bytes result.last }
 {
-    let room = (8 - a % 8) % 8;
-    let next = a / 8 + (a % 8 + 7) / 8;
-    if k < room {
-        return Cut {
-            first: k,
-            next,
-            bytes: 0,
-            last: 0,
-        };
-    }
-    let rest = k - room;
+    let first = k.min((8 - a % 8) % 8);
+    let rest = k - first;
     Cut {
-        first: room,
-        next,
+        first,
+        next: a.div_ceil(8),
         bytes: rest / 8,
         last: rest % 8,
     }

@@ -3,7 +3,7 @@
 -- turned_parts and turned_pair (sections turned by their shifts) and both_halves (the top rows and the bottom rows together).
 use Rattle.std.specs.Prelude.{◌≡◌, refl, cond, List, [], ◌∷◌, ◌++◌, ltb, length, take, drop, replicate}
 use Rattle.std.proofs.Math.Path.{sym, ap, ap₂}
-use Rattle.std.proofs.Common.{◌∙◌, subst, mod-lt, suc-mul, zero-mul, mul-le-mul_right, add-mul, zero-add, add-one, lt-ltb, le-ltb, length-drop, get_or-take, get_or-drop, take_all, length-take-le}
+use Rattle.std.proofs.Common.{◌∙◌, subst, mod-lt, suc-mul, zero-mul, mul-le-mul_right, add-mul, add-one, lt-ltb, le-ltb, length-drop, get_or-take, get_or-drop, take_all, length-take-le}
 use Rattle.std.proofs.Math.Logic.{inl, inr, ⊎_elim, by_cases}
 use Prim.Native.Nat.{ℕ, zero, suc, ◌+◌, ◌-◌, ◌*◌, ◌%◌, ◌≤◌, ◌<◌}
 use Rattle.std.proofs.Math.Nat.{mod-eq_of_lt, add-mod_right, sub-zero}
@@ -101,7 +101,7 @@ added_more u w j k {old} {mid} {new} A B e =
           ∙ ap (λ y. get_or old i 0 ⊕ y) (sym (xor_over_append (up_to j) (from j k) f) ∙ ap (λ y. xor_over y f) (sym (up_to_append j k)));
     }
 
--- one section, two, three and eight, as they are added
+-- one section and two, as they are added
 pub one_added : (u : ℕ → ℕ → ℕ) {old new : List ℕ} → Mapped (λ i x. x ⊕ u 0 i) old new → Mapped (added u 1) old new
 unfolding up_to from xor_over
 one_added u {old} M = record { long = M.long; each = λ i h. M.each i h ∙ ap (λ y. get_or old i 0 ⊕ y) (sym (⊕_zero (u 0 i))) }
@@ -110,30 +110,18 @@ pub two_added : (u : ℕ → ℕ → ℕ) {old new : List ℕ} → Mapped (λ i 
 unfolding up_to from xor_over
 two_added u {old} M = record { long = M.long; each = λ i h. M.each i h ∙ simp (⊕_assoc, ⊕_zero) }
 
-three_sum : (f : ℕ → ℕ) (x : ℕ) → x ⊕ f 0 ⊕ f 1 ⊕ f 2 ≡ x ⊕ xor_over (up_to 3) f
+-- no section of several, and one more
+pub added_start : (u : ℕ → ℕ → ℕ) (i x : ℕ) → x ≡ added u 0 i x
 unfolding up_to from xor_over
-three_sum f x = simp (⊕_assoc, ⊕_zero)
+added_start u i x = sym (⊕_zero x)
 
-eight_sum : (f : ℕ → ℕ) (x : ℕ) → x ⊕ f 0 ⊕ f 1 ⊕ f 2 ⊕ f 3 ⊕ f 4 ⊕ f 5 ⊕ f 6 ⊕ f 7 ≡ x ⊕ xor_over (up_to 8) f
-unfolding up_to from xor_over
-eight_sum f x = simp (⊕_assoc, ⊕_zero)
-
-module _ (t : ℕ) (block : List ℕ) (i x : ℕ) where
-  first : get_or block i 0 ≡ straight t block 0 i
-  first = let e : i ≡ 0 * t + i = omega arith in ap (λ y. get_or block y 0) e
-
-  second : get_or block (t + i) 0 ≡ straight t block 1 i
-  second = let e : t + i ≡ 1 * t + i = omega arith in ap (λ y. get_or block y 0) e
-
-  pub three_added : x ⊕ get_or block i 0 ⊕ get_or block (t + i) 0 ⊕ get_or block (2 * t + i) 0 ≡ added (straight t block) 3 i x
-  three_added = ap₂ (λ y z. x ⊕ y ⊕ z ⊕ get_or block (2 * t + i) 0) first second ∙ three_sum (λ j. straight t block j i) x
-
-  pub eight_added : x ⊕ get_or block i 0 ⊕ get_or block (t + i) 0 ⊕ get_or block (2 * t + i) 0 ⊕ get_or block (3 * t + i) 0 ⊕ get_or block (4 * t + i) 0
-      ⊕ get_or block (5 * t + i) 0 ⊕ get_or block (6 * t + i) 0 ⊕ get_or block (7 * t + i) 0 ≡ added (straight t block) 8 i x
-  eight_added =
-      ap₂ (λ y z. x ⊕ y ⊕ z ⊕ get_or block (2 * t + i) 0 ⊕ get_or block (3 * t + i) 0 ⊕ get_or block (4 * t + i) 0
-      ⊕ get_or block (5 * t + i) 0 ⊕ get_or block (6 * t + i) 0 ⊕ get_or block (7 * t + i) 0) first second
-      ∙ eight_sum (λ j. straight t block j i) x
+pub added_next : (u : ℕ → ℕ → ℕ) (k i x : ℕ) → added u k i x ⊕ u k i ≡ added u (k + 1) i x
+unfolding xor_over
+added_next u k i x =
+    let f : ℕ → ℕ = λ j. u j i in
+    ⊕_assoc x (xor_over (up_to k) f) (u k i)
+    ∙ ap (λ y. x ⊕ y) (ap (λ y. xor_over (up_to k) f ⊕ y) (sym (⊕_zero (u k i))) ∙ sym (xor_over_append (up_to k) (k ∷ []) f)
+    ∙ ap (λ y. xor_over y f) (sym (up_to_suc k)) ∙ ap (λ y. xor_over (up_to y) f) (sym (add-one k)))
 
 -- the sections from j on, as they are lent
 rest_is : (a : ℕ) (block : List ℕ) → take (length block - a) (drop a block) ≡ drop a block
@@ -152,22 +140,7 @@ rest_long n t j a block l h e =
 pub added_all : (u : ℕ → ℕ → ℕ) {j n : ℕ} {old new : List ℕ} → Mapped (added u j) old new → j ≤ n → n ≤ j → Mapped (added u n) old new
 added_all u {j} {n} {old} {new} M h g = let e : j ≡ n = omega arith in subst (λ y. Mapped (added u y) old new) e M
 
--- the first section as it was lent
-pub first_added : (t : ℕ) (rest part : List ℕ) {old new : List ℕ} → part ≡ take (t - 0) (drop 0 rest) → length old ≡ t → Xored old part new
-    → Mapped (added (straight t rest) 1) old new
-first_added t rest part {old} e l X =
-    one_added (straight t rest) (record {
-      long = X.long;
-      each = λ i h.
-          let f : i < t - 0 = omega arith in
-          X.each i
-          ∙ ap (λ y. get_or old i 0 ⊕ y) (ap (λ y. get_or y i 0) e ∙ get_or-take (t - 0) (drop 0 rest) i 0 f ∙ get_or-drop 0 rest i 0 ∙ ap (λ y. get_or rest y 0) (zero-add i) ∙ first t rest i 0);
-    })
-
 -- k of the sections that are left
-pub fewer_fit : (k left t l : ℕ) → k ≤ left → left * t ≤ l → k * t ≤ l
-fewer_fit k left t l h g = omega (arith, mul-le-mul_right t h)
-
 pub group_fits : (n t j a k : ℕ) → j ≤ n → k ≤ n - j → a ≡ j * t → a + k * t ≤ n * t
 group_fits n t j a k g h e = let f : j + k ≤ n = omega arith in omega (arith, add-mul j k t, mul-le-mul_right t f)
 

@@ -12,42 +12,22 @@ fn xor_into(dst: &mut [u8], src: &[u8])
     requires { length src.now ≡ length dst.old }
     ensures { Xored dst.old src.now dst.new }
 {
-    let mut i = 0;
-    while i < dst.len() {
-        dst[i] = dst[i] ^ src[i];
-        i += 1;
+    for i in 0..dst.len() {
+        dst[i] ^= src[i];
     }
 }
 
-// Adds three sections that follow on each other to the sums of the top rows.
-fn add_three(t: usize, sections: &[u8], top: &mut [u8])
-    requires { (3 * t ≤ length sections.now) × (length top.old ≡ t) }
-    ensures { Mapped (added (straight t sections.now) 3) top.old top.new }
+// Adds K sections that follow on each other to the sums of the top rows: one load and one store of a sum for K symbols.
+fn add_some<const K: usize>(t: usize, sections: &[u8], top: &mut [u8])
+    requires { (K * t ≤ length sections.now) × (length top.old ≡ t) }
+    ensures { Mapped (added (straight t sections.now) K) top.old top.new }
 {
-    let mut i = 0;
-    while i < t {
-        top[i] = top[i] ^ sections[i] ^ sections[t + i] ^ sections[2 * t + i];
-        i += 1;
-    }
-}
-
-// The same of eight: one load and one store of a sum for eight symbols.
-fn add_eight(t: usize, sections: &[u8], top: &mut [u8])
-    requires { (8 * t ≤ length sections.now) × (length top.old ≡ t) }
-    ensures { Mapped (added (straight t sections.now) 8) top.old top.new }
-{
-    let mut i = 0;
-    while i < t {
-        top[i] = top[i]
-            ^ sections[i]
-            ^ sections[t + i]
-            ^ sections[2 * t + i]
-            ^ sections[3 * t + i]
-            ^ sections[4 * t + i]
-            ^ sections[5 * t + i]
-            ^ sections[6 * t + i]
-            ^ sections[7 * t + i];
-        i += 1;
+    for i in 0..t {
+        let mut sum = top[i];
+        for k in 0..K {
+            sum ^= sections[k * t + i];
+        }
+        top[i] = sum;
     }
 }
 
@@ -57,18 +37,18 @@ fn add_next(left: usize, t: usize, rest: &[u8], top: &mut [u8]) -> usize
     ensures { Taken left t rest.now top.old result top.new }
 {
     if 8 <= left {
-        add_eight(t, rest, &mut top[..]);
+        add_some::<8>(t, rest, top);
         return 8;
     }
     if 3 <= left {
-        add_three(t, rest, &mut top[..]);
+        add_some::<3>(t, rest, top);
         return 3;
     }
-    xor_into(&mut top[..], &rest[0..t]);
+    add_some::<1>(t, rest, top);
     1
 }
 
-// Adds all sections to the sums of the top rows.
+// Adds all sections to the sums of the top rows. No `for`: add_next says how far it came.
 fn add_tops(n: usize, t: usize, block: &[u8], top: &mut [u8])
     requires { (length block.now ≡ n * t) × (length top.old ≡ t) }
     ensures { Mapped (added (straight t block.now) n) top.old top.new }
@@ -87,10 +67,8 @@ fn xor_two(dst: &mut [u8], a: &[u8], b: &[u8])
     requires { (length a.now ≡ length dst.old) × (length b.now ≡ length dst.old) }
     ensures { Mapped (with_two a.now b.now) dst.old dst.new }
 {
-    let mut i = 0;
-    while i < dst.len() {
-        dst[i] = dst[i] ^ a[i] ^ b[i];
-        i += 1;
+    for i in 0..dst.len() {
+        dst[i] ^= a[i] ^ b[i];
     }
 }
 
@@ -162,7 +140,7 @@ fn add_turns(
     1
 }
 
-// Adds all sections to the sums of the bottom rows.
+// Adds all sections to the sums of the bottom rows. No `for`: add_turns says how far it came.
 fn add_bottoms(n: usize, t: usize, shifts: &[u16], block: &[u8], bottom: &mut [u8])
     requires { GoodPlan n t shifts.now × (length block.now ≡ n * t) × (length bottom.old ≡ t) }
     ensures { Mapped (added (turned t shifts.now block.now) n) bottom.old bottom.new }

@@ -89,17 +89,11 @@ module _ {t p c j k : ℕ} {tally : List ℕ} (R : Ready t p c j k tally) where
   unfolding bottom_row
   bottom_large = omega arith
 
-  -- its two rows, h and b, are within a table of length m
-  pub ready_top : {h m : ℕ} → h ≡ k → m ≡ 2 * t → h < m
-  ready_top e q = omega arith
-
+  -- its bottom row b is within a table of length m
   pub ready_bottom : {b m : ℕ} → b ≡ bottom_row t p k → m ≡ 2 * t → b < m
   ready_bottom e q = omega (arith, bottom_small)
 
-  -- there is room for the weight w
-  pub room_top : {h w : ℕ} → h ≡ k → w ≡ tally_unit + j → get_or tally h 0 + w < 65536
-  room_top {h} e q = omega (arith, R.room h (omega arith), R.section)
-
+  -- there is room for the weight w at row b, when it is added at row h
   pub room_bottom : {h b w : ℕ} {tally₁ : List ℕ} → h ≡ k → b ≡ bottom_row t p k → w ≡ tally_unit + j → tally₁ ≡ set tally h (get_or tally h 0 + w)
       → get_or tally₁ b 0 + w < 65536
   room_bottom {h} {b} {w} {tally₁} e f v q =
@@ -172,9 +166,6 @@ due_then h l D A =
       all = λ x y z. D.all x (omega arith) z;
       seen = A.notes D.E D.erased (λ x y z. D.all x y (omega arith)) D.seen;
     }
-
-pub due_part : {n t : ℕ} {shifts : List ℕ} {c d e : ℕ} {tally : List ℕ} → d ≤ e → Due n t shifts c e tally → Due n t shifts c d tally
-due_part l D = record { good = D.good; E = D.E; erased = D.erased; all = λ x y z. D.all x y (omega arith); seen = D.seen }
 
 module _ {n t : ℕ} {shifts : List ℕ} {c e : ℕ} {tally : List ℕ} (D : Due n t shifts c e tally) where
   pub due_long : length tally ≡ 2 * t

@@ -63,8 +63,3 @@ section_next n t j c h l =
 
 pub reached_stands : {n t : ℕ} {shifts : List ℕ} {c j begin end p : ℕ} → Reached n t shifts c j begin end p → c < end → Stands t c j (c - begin)
 reached_stands R h = record { whole = omega (arith, R.begins, R.passed); within = omega (arith, R.ends, R.passed) }
-
--- the section that ends first after place c
-pub reached_end : {n t : ℕ} {shifts : List ℕ} {c j end p : ℕ} → j < n → end ≡ j * t + t → end ≤ c + t → p ≡ get_or shifts j 0
-    → Reached n t shifts c j (end - t) end p
-reached_end h e l q = record { inside = h; begins = omega arith; ends = omega arith; shift = q; passed = omega arith }

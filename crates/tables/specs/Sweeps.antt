@@ -202,26 +202,3 @@ swept_lent {f} {a} {b} {m} {old} part₁ mid part₂ new A q₁ X₁ q₂ X₂ =
 -- w can be added to each entry
 pub record Room (w : ℕ) (s : List ℕ) : Type 0 where
   pub each : (r : ℕ) → r < length s → get_or s r 0 + w < 65536
-
-pub room_part : (a m : ℕ) {w : ℕ} {s : List ℕ} → Room w s → a + m ≤ length s → Room w (take (a + m - a) (drop a s))
-room_part a m {w} {s} R h =
-    let l : length (take (a + m - a) (drop a s)) ≡ a + m - a = length-take-le (a + m - a) (drop a s) (rw (length-drop a s) (omega arith)) in
-    record {
-      each = λ r g.
-          let k : r < m = omega arith in
-          let e : get_or (take (a + m - a) (drop a s)) r 0 ≡ get_or s (a + r) 0 = get_or-take (a + m - a) (drop a s) r 0 (omega arith) ∙ get_or-drop a s r 0 in
-          omega (arith, R.each (a + r) (omega arith));
-    }
-
--- the second part is as it was when the first has come back
-pub room_second : {f : ℕ → ℕ → ℕ} {a b m w : ℕ} {old : List ℕ} (part₁ mid : List ℕ) → Room w old → Apart a b m (length old)
-    → mid ≡ take a old ++ (part₁ ++ drop (a + m - a) (drop a old)) → Mapped f (take (a + m - a) (drop a old)) part₁ → Room w (take (b + m - b) (drop b mid))
-room_second {f} {a} {b} {m} {w} {old} part₁ mid R A q X =
-    let P : PartMapped f a (a + m) old mid = part_mapped a (a + m) old part₁ mid (omega arith) (omega (arith, A.order, A.end)) q X in
-    let l : length (take (b + m - b) (drop b mid)) ≡ b + m - b = length-take-le (b + m - b) (drop b mid) (rw (length-drop b mid) (omega (arith, P.long, A.end))) in
-    record {
-      each = λ r g.
-          let e : get_or (take (b + m - b) (drop b mid)) r 0 ≡ get_or old (b + r) 0
-          = get_or-take (b + m - b) (drop b mid) r 0 (omega arith) ∙ get_or-drop b mid r 0 ∙ P.after (b + r) (omega (arith, A.order)) in
-          omega (arith, R.each (b + r) (omega (arith, A.end)));
-    }

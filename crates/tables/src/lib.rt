@@ -10,7 +10,6 @@ ghost use Rattle.tables.specs.Counting.{from_place};
 ghost use Rattle.tables.specs.Scan.{Lent};
 
 use plan::Place;
-use slices::clear_words;
 
 pub mod lists;
 pub mod marks;
@@ -24,6 +23,6 @@ pub fn count(n: usize, t: usize, shifts: &[u16], marks: &[u8], first: Place, tal
     requires tally_len { length tally.old ≡ 2 * t }
     ensures { Counted (layout n t shifts.now) (from_place first.0 (erasures (layout n t shifts.now) marks.now)) tally.new }
 {
-    clear_words(&mut tally[..]);
-    marks::note_marks(n, t, shifts, marks, first, &mut tally[..]);
+    tally.fill(0);
+    marks::note_marks(n, t, shifts, marks, first, tally);
 }

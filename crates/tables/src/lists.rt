@@ -1,4 +1,5 @@
-// Tables and lists hold raw numbers. Here alone one is read as a row or as a place, and a row or a place is stored as one.
+// Tables and lists hold raw numbers: a C caller lends them so, and the witness list, lent for its answer, serves as the queue too. Here alone one is read as a row
+// or as a place, and a row or a place is stored as one.
 ghost use Rattle.std.specs.Prelude.{◌≡◌, ◌<◌, length, get_or, set};
 
 use plan::{Place, Row};

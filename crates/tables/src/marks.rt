@@ -23,8 +23,8 @@ fn note(t: usize, p: usize, spot: Spot, tally: &mut [u16])
     let w = weight(spot.section);
     let high = top(spot);
     let low = bottom(spot, t, p);
-    put_in(&mut tally[..], high, w);
-    put_in(&mut tally[..], low, w);
+    put_in(tally, high, w);
+    put_in(tally, low, w);
 }
 
 // Notes place c, and gives its section.
@@ -45,9 +45,9 @@ fn note_next(
     let spot = Spot {
         place: c,
         section: here.index,
-        offset: c.0 as usize - here.begin,
+        offset: usize::from(c.0) - here.begin,
     };
-    note(t, here.shift, spot, &mut tally[..]);
+    note(t, here.shift, spot, tally);
     here
 }
 
@@ -68,9 +68,9 @@ fn note_stretch(
     let spot = Spot {
         place: c,
         section: at.index,
-        offset: c.0 as usize - at.begin,
+        offset: usize::from(c.0) - at.begin,
     };
-    note_run(t, at.shift, m, spot, &mut tally[..]);
+    note_run(t, at.shift, m, spot, tally);
 }
 
 // Notes all places from c to end, and gives the section that it comes to.
@@ -94,7 +94,7 @@ pub fn note_places(
         let place = Place(d as u16);
         here = here.reach(n, t, shifts, place);
         let m = here.stretch(n, t, shifts, place, end);
-        note_stretch(n, t, shifts, place, m, here, &mut tally[..]);
+        note_stretch(n, t, shifts, place, m, here, tally);
         d += m;
     }
     here
@@ -120,14 +120,14 @@ fn note_inside(
 {
     let mut rest = word;
     while rest != 0 {
-        let c = 8 * i + u64::trailing_zeros(rest) as usize;
+        let c = 8 * i + rest.trailing_zeros() as usize;
         let spot = Spot {
             place: Place(c as u16),
             section: at.index,
             offset: c - at.begin,
         };
-        note(t, at.shift, spot, &mut tally[..]);
-        rest = rest & (rest - 1);
+        note(t, at.shift, spot, tally);
+        rest &= rest - 1;
     }
 }
 
@@ -152,9 +152,9 @@ fn note_across(
     let mut here = at;
     let mut rest = word;
     while rest != 0 {
-        let c = 8 * i + u64::trailing_zeros(rest) as usize;
-        here = note_next(n, t, shifts, Place(c as u16), here, &mut tally[..]);
-        rest = rest & (rest - 1);
+        let c = 8 * i + rest.trailing_zeros() as usize;
+        here = note_next(n, t, shifts, Place(c as u16), here, tally);
+        rest &= rest - 1;
     }
     here
 }
@@ -179,12 +179,12 @@ fn note_word(
     let c = 8 * i;
     let word = word_from(marks, i, first);
     if word == u64::MAX {
-        return note_places(n, t, shifts, c, c + 64, at, &mut tally[..]);
+        return note_places(n, t, shifts, c, c + 64, at, tally);
     }
     if at.end < c + 64 {
-        return note_across(n, t, shifts, marks, first.0, i, word, at, &mut tally[..]);
+        return note_across(n, t, shifts, marks, first.0, i, word, at, tally);
     }
-    note_inside(n, t, shifts, marks, first.0, i, word, at, &mut tally[..]);
+    note_inside(n, t, shifts, marks, first.0, i, word, at, tally);
     at
 }
 
@@ -195,9 +195,9 @@ pub fn note_marks(n: usize, t: usize, shifts: &[u16], marks: &[u8], first: Place
     ensures { Counted (layout n t shifts.now) (from_place first.0 (erasures (layout n t shifts.now) marks.now)) tally.new }
 {
     let mut at = Section::start(n, t, shifts);
-    let mut i = pass_zeros(marks, first.0 as usize / 64 * 8);
+    let mut i = pass_zeros(marks, usize::from(first.0) / 64 * 8);
     while i < marks.len() {
-        at = note_word(n, t, shifts, marks, first, i, at, &mut tally[..]);
+        at = note_word(n, t, shifts, marks, first, i, at, tally);
         i = pass_zeros(marks, i + 8);
     }
 }

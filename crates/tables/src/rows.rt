@@ -43,8 +43,7 @@ pub(crate) fn put_in(tally: &mut [u16], r: Row, w: u16)
     requires { (r.0 < length tally.old) × (get_or tally.old r.0 0 + w < 65536) }
     ensures { tally.new ≡ set tally.old r.0 (get_or tally.old r.0 0 + w) }
 {
-    let i = r.0 as usize;
-    tally[i] = tally[i] + w;
+    tally[usize::from(r.0)] += w;
 }
 
 // The place of a section on a row: its offset, and the row that it meets beside that one. Rows are numbers of machine width here: a turn of peeling waits for

@@ -13,10 +13,8 @@ fn raise(s: &mut [u16], w: u16)
     requires { Room w s.old }
     ensures { Mapped (added w) s.old s.new }
 {
-    let mut i = 0;
-    while i < s.len() {
-        s[i] = s[i] + w;
-        i += 1;
+    for entry in s.iter_mut() {
+        *entry += w;
     }
 }
 
@@ -25,12 +23,10 @@ fn sweep(tally: &mut [u16], high: Row, low: Row, m: usize, w: u16)
     requires { Apart high.0 low.0 m (length tally.old) × Room w tally.old }
     ensures { Swept (added w) high.0 low.0 m tally.old tally.new }
 {
-    let a = high.0 as usize;
-    let b = low.0 as usize;
-    let high_end = a + m;
-    let low_end = b + m;
-    raise(&mut tally[a..high_end], w);
-    raise(&mut tally[b..low_end], w);
+    let a = usize::from(high.0);
+    let b = usize::from(low.0);
+    raise(&mut tally[a..a + m], w);
+    raise(&mut tally[b..b + m], w);
 }
 
 // Notes the m places from the spot on; p is the shift of their section.
@@ -42,5 +38,5 @@ pub(crate) fn note_run(t: usize, p: usize, m: usize, spot: Spot, tally: &mut [u1
     let w = weight(spot.section);
     let high = top(spot);
     let low = bottom(spot, t, p);
-    sweep(&mut tally[..], high, low, m, w);
+    sweep(tally, high, low, m, w);
 }

@@ -32,7 +32,7 @@ impl Section {
             index: 0,
             begin: 0,
             end: t,
-            shift: shifts[0] as usize,
+            shift: usize::from(shifts[0]),
         }
     }
 
@@ -41,10 +41,11 @@ impl Section {
         requires { GoodPlan n t shifts.now × Reached n t shifts.now c.0 self.index self.begin self.end self.shift × (c.0 < n * t) }
         ensures { Reached n t shifts.now c.0 result.index result.begin result.end result.shift × (c.0 < result.end) }
     {
-        let place = c.0 as usize;
+        let place = usize::from(c.0);
         if place < self.end {
             return self;
         }
+        // Step by step, hardly ever more than one: a division by t costs more.
         let mut index = self.index;
         let mut end = self.end;
         while end <= place {
@@ -55,7 +56,7 @@ impl Section {
             index,
             begin: end - t,
             end,
-            shift: shifts[index] as usize,
+            shift: usize::from(shifts[index]),
         }
     }
 
@@ -64,21 +65,12 @@ impl Section {
         requires { GoodPlan n t shifts.now × Reached n t shifts.now c.0 self.index self.begin self.end self.shift × (c.0 < self.end) × (c.0 < end) }
         ensures { Stretch t self.shift (c.0 - self.begin) result × (0 < result) × (c.0 + result ≤ end) }
     {
-        let place = c.0 as usize;
+        let place = usize::from(c.0);
         let k = place - self.begin;
-        let m = least(self.end - place, end - place);
+        let m = self.end.min(end) - place;
         if k < self.shift {
-            return least(m, self.shift - k);
+            return m.min(self.shift - k);
         }
         m
     }
-}
-
-fn least(a: usize, b: usize) -> usize
-    ensures { result ≡ min a b }
-{
-    if a < b {
-        return a;
-    }
-    b
 }

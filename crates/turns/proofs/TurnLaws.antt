@@ -1,20 +1,17 @@
 -- How a turn keeps its promise, case by case.
 -- Main results: on_nothing_yet, on_cut_yet, on_end, on_unknown, on_short, on_refused, on_acts; says_refused, says_end; turn_not_eleven.
-use Rattle.std.specs.Prelude.{◌≡◌, refl, ◌≢◌, Bool, true, false, List, [], ◌∷◌, ℕ, get_or}
+use Rattle.std.specs.Prelude.{◌≡◌, refl, ◌≢◌, Bool, true, false, List, [], ◌∷◌, ℕ, get_or, Ok, Err}
 use Rattle.std.proofs.Common.{sym, ◌∙◌, ap, subst, arith}
-use Rattle.refusals.specs.Refusals.{number_of}
+use Rattle.refusals.specs.Refusals.{number_of, Check}
 use Rattle.refusals.proofs.RefusalLaws.{not_eleven}
 use Rattle.refusals.specs.declared.Refusal.{Refusal}
-use Rattle.refusals.specs.declared.Check.{Check}
-use Rattle.refusals.specs.declared.Check.TheVariants as check
 use Rattle.commands.specs.Commands.{size_of, parsed, parsed_check}
 use Rattle.commands.specs.declared.Command.{Command}
 use Rattle.commands.specs.declared.Parsed.{Parsed}
 use Rattle.commands.specs.declared.Parsed.TheVariants.{Whole, Unknown, Short, Nothing}
 use Rattle.lines.specs.Lines.{line, end_word, refused_word, Wrote}
 use Rattle.state.specs.Refusing.{refusal_of}
-use Rattle.act.specs.Acts.{state_of}
-use Rattle.act.specs.declared.Held.{Held}
+use Rattle.act.specs.Acts.{state_of, Held}
 use Rattle.turns.specs.Sheets.{refused_line}
 use Rattle.turns.specs.Turns.{turn_number, Stops, Same, Ends, Goes, Turns}
 use Rattle.turns.specs.declared.Turn.{Turn}
@@ -105,7 +102,7 @@ module _ {h : Held} {v m l b : List ℕ} {last : Bool} {offset : ℕ} {turn : Tu
     goes_on = λ c q _. absurd (not_unknown_whole p q);
   }
 
-  pub on_refused : (c : Command) {k : Check} → parsed b ≡ Whole c → k ≡ refusal_of (state_of h v m) c → k ≢ check.Pass → Stops k offset l turn l' →
+  pub on_refused : (c : Command) {k : Check} → parsed b ≡ Whole c → k ≡ refusal_of (state_of h v m) c → k ≢ (Ok tt) → Stops k offset l turn l' →
       Same h v m h' v' m' → Turns h v m l b last offset turn h' v' m' l'
   on_refused c p e n t s = record {
     nothing_yet = λ q _. absurd (not_nothing_whole q p);
@@ -117,7 +114,7 @@ module _ {h : Held} {v m l b : List ℕ} {last : Bool} {offset : ℕ} {turn : Tu
     goes_on = λ d q z. let f : c ≡ d = cc in absurd (n (e ∙ ap (refusal_of (state_of h v m)) f ∙ z));
   }
 
-  pub on_acts : (c : Command) (size : ℕ) → parsed b ≡ Whole c → size ≡ size_of (get_or b 0 0) → refusal_of (state_of h v m) c ≡ check.Pass → Goes c size h v m l turn h' v' m' l' →
+  pub on_acts : (c : Command) (size : ℕ) → parsed b ≡ Whole c → size ≡ size_of (get_or b 0 0) → refusal_of (state_of h v m) c ≡ Ok tt → Goes c size h v m l turn h' v' m' l' →
       Turns h v m l b last offset turn h' v' m' l'
   on_acts c size p e r g = record {
     nothing_yet = λ q _. absurd (not_nothing_whole q p);
@@ -132,7 +129,7 @@ module _ {h : Held} {v m l b : List ℕ} {last : Bool} {offset : ℕ} {turn : Tu
 
 -- the lines
 pub says_refused : {l l' : List ℕ} (x : Refusal) (offset count : ℕ) {number : ℕ} → number ≡ number_of x → Wrote l (line refused_word (number ∷ offset ∷ [])) l' count →
-    Stops (check.Stop x) offset l (Stop x count) l'
+    Stops (Err x) offset l (Stop x count) l'
 unfolding refused_line
 says_refused {l} {l'} x offset count e w =
     record { refusal = x; at = refl; count = count; stopped = refl; number = refl; length = refl; wrote = subst (λ n. Wrote l (line refused_word (n ∷ offset ∷ [])) l' count) e w }

@@ -1,21 +1,19 @@
 -- A turn is one: on a state that nothing refuses, the bytes at hand settle what comes of them, the plan held, and all that stands in the three buffers.
 -- Main results: wrote_once, same_once, turns_once.
-use Rattle.std.specs.Prelude.{◌≡◌, Bool, true, false, List, ℕ, length, get_or, drop, take}
+use Rattle.std.specs.Prelude.{◌≡◌, Bool, true, false, List, ℕ, length, get_or, drop, take, Ok}
 use Rattle.std.proofs.Math.Path.{refl, sym, ap}
 use Rattle.std.proofs.Common.{◌∙◌, subst, ap₂, length-take-le}
 use Rattle.std.proofs.Math.Logic.{by_cases}
 use Rattle.refusals.proofs.RefusalLaws.{dec_pass, stop_same}
-use Rattle.refusals.specs.declared.Check.{Check}
-use Rattle.refusals.specs.declared.Check.TheVariants.{Pass}
+use Rattle.refusals.specs.Refusals.{Check}
 use Rattle.commands.specs.Commands.{size_of, parsed}
 use Rattle.commands.specs.declared.Command.{Command}
 use Rattle.commands.specs.declared.Parsed.{Parsed}
 use Rattle.commands.specs.declared.Parsed.TheVariants.{Whole, Unknown, Short, Nothing}
 use Rattle.lines.specs.Lines.{Wrote}
 use Rattle.state.specs.Refusing.{refusal_of}
-use Rattle.act.specs.Acts.{state_of, Kept}
+use Rattle.act.specs.Acts.{state_of, Kept, Held}
 use Rattle.act.proofs.ActsOnce.{parts_same, acts_once}
-use Rattle.act.specs.declared.Held.{Held}
 use Rattle.turns.specs.Turns.{Stops, Same, Ends, Goes, Turns}
 use Rattle.turns.specs.declared.Turn.{Turn}
 use Rattle.turns.specs.declared.Turn.TheVariants.{End, Stop, On}
@@ -49,7 +47,7 @@ module _ {h : Held} {v m l b : List ℕ} {last : Bool} {offset : ℕ} (kept : Ke
   unfolding AllSame
   still e r s = let f = same_once r s in (e.0, f.0, f.1, f.2, e.1)
 
-  goes_once : (c : Command) (size : ℕ) → refusal_of (state_of h v m) c ≡ Pass → Goes c size h v m l t h' v' m' l' → Goes c size h v m l u a' w' k' y' → AllSame
+  goes_once : (c : Command) (size : ℕ) → refusal_of (state_of h v m) c ≡ Ok tt → Goes c size h v m l t h' v' m' l' → Goes c size h v m l u a' w' k' y' → AllSame
   unfolding AllSame
   goes_once c size e f g =
       let s = acts_once c kept e f.acts g.acts in

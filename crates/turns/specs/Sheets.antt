@@ -1,8 +1,6 @@
 -- The sheet of a whole job: the chain of its commands' lines. The sheet of a job b is x where Sheet 0 start b x; it is one text (one_sheet, OneSheet).
-use Rattle.std.specs.Prelude.{◌≡◌, ◌≢◌, false, List, [], ◌∷◌, ◌++◌, ℕ, ◌+◌, drop, get_or}
-use Rattle.refusals.specs.Refusals.{check_number}
-use Rattle.refusals.specs.declared.Check.{Check}
-use Rattle.refusals.specs.declared.Check.TheVariants.{Pass}
+use Rattle.std.specs.Prelude.{◌≡◌, ◌≢◌, false, List, [], ◌∷◌, ◌++◌, ℕ, ◌+◌, drop, get_or, Ok}
+use Rattle.refusals.specs.Refusals.{check_number, Check}
 use Rattle.plan.specs.Plans.{no_plan}
 use Rattle.commands.specs.Commands.{size_of, parsed, parsed_check}
 use Rattle.lines.specs.Lines.{line, refused_word, end_word}
@@ -27,7 +25,7 @@ pub data Sheet : ℕ → State → List ℕ → List ℕ → Type 0 where
   -- "7, 8, 9, then the others"; "After `refused` the job stops"
   unknown : {o : ℕ} {s : State} {b : List ℕ} → parsed b ≡ Unknown → Sheet o s b (refused_line (parsed_check Unknown) o)
   short : {o : ℕ} {s : State} {b : List ℕ} → parsed b ≡ Short → Sheet o s b (refused_line (parsed_check Short) o)
-  refused : {o : ℕ} {s : State} {b : List ℕ} (c : Command) → parsed b ≡ Whole c → refusal_of s c ≢ Pass → Sheet o s b (refused_line (refusal_of s c) o)
+  refused : {o : ℕ} {s : State} {b : List ℕ} (c : Command) → parsed b ≡ Whole c → refusal_of s c ≢ (Ok tt) → Sheet o s b (refused_line (refusal_of s c) o)
   -- a command that is not refused writes its line, and the rest follows from the state after it
-  goes_on : {o : ℕ} {s : State} {b : List ℕ} (s' : State) (text rest : List ℕ) (c : Command) → parsed b ≡ Whole c → refusal_of s c ≡ Pass → Means c s s' text →
+  goes_on : {o : ℕ} {s : State} {b : List ℕ} (s' : State) (text rest : List ℕ) (c : Command) → parsed b ≡ Whole c → refusal_of s c ≡ Ok tt → Means c s s' text →
       Sheet (o + size_of (get_or b 0 0)) s' (drop (size_of (get_or b 0 0)) b) rest → Sheet o s b (text ++ rest)

@@ -1,29 +1,21 @@
 -- What one turn of a job does (01, "The job and its sheet").
 -- Main definitions: turn_number, turn_used, turn_wrote, Stops, Same, Ends, Goes, Turns.
-use Rattle.std.specs.Prelude.{◌≡◌, ◌≢◌, Bool, true, false, List, [], ℕ, get_or}
-use Rattle.refusals.specs.Refusals.{number_of, check_number}
+use Rattle.std.specs.Prelude.{◌≡◌, ◌≢◌, Bool, true, false, List, [], ℕ, get_or, Ok, Err, None}
+use Rattle.refusals.specs.Refusals.{number_of, check_number, Check}
 use Rattle.refusals.specs.declared.Refusal.{Refusal}
-use Rattle.refusals.specs.declared.Check.{Check}
-use Rattle.refusals.specs.declared.Check.TheVariants as check
-use Rattle.plan.specs.Plans.{no_plan}
-use Rattle.plan.specs.declared.Plan.{Plan}
 use Rattle.commands.specs.Commands.{size_of, parsed, parsed_check}
 use Rattle.commands.specs.declared.Command.{Command}
 use Rattle.commands.specs.declared.Parsed.TheVariants.{Whole, Unknown, Short, Nothing}
 use Rattle.lines.specs.Lines.{line, end_word, Wrote}
 use Rattle.state.specs.Refusing.{refusal_of}
-use Rattle.act.specs.Acts.{state_of, Acts}
-use Rattle.act.specs.declared.Held.{Held}
+use Rattle.act.specs.Acts.{state_of, Acts, Held}
 use Rattle.turns.specs.Sheets.{refused_line}
 use Rattle.turns.specs.declared.Turn.{Turn}
 use Rattle.turns.specs.declared.Turn.TheVariants.{Wait, End, Stop, On, Bad}
 
 -- before the first plan, over buffers of any content
-abbrev pub without_plan : Plan → Held
-without_plan p = record { planned = false; plan = p }
-
 abbrev pub unplanned : Held
-unplanned = without_plan no_plan
+unplanned = None
 
 -- 01's number of a turn, and its values: the bytes of the job that it used, and those of the line that it wrote
 abbrev pub turn_number : Turn → ℕ
@@ -50,7 +42,7 @@ turn_wrote (Bad x) = 0
 -- the job stops at what refuses it: the line `refused` was written, with the number of that and this offset
 pub record Stops (c : Check) (offset : ℕ) (l : List ℕ) (turn : Turn) (l' : List ℕ) : Type 0 where
   pub refusal : Refusal
-  pub at : c ≡ check.Stop refusal
+  pub at : c ≡ Err refusal
   pub count : ℕ
   pub stopped : turn ≡ Stop refusal count
   pub number : turn_number turn ≡ check_number c
@@ -90,7 +82,7 @@ pub record Turns (h : Held) (v m l b : List ℕ) (last : Bool) (offset : ℕ) (t
   -- 7, "unknown first byte in a job"; 8, "the job ends inside a command"; then 9 and the others of the command
   pub unknown : parsed b ≡ Unknown → Stops (parsed_check Unknown) offset l turn l' × Same h v m h' v' m'
   pub short : parsed b ≡ Short → last ≡ true → Stops (parsed_check Short) offset l turn l' × Same h v m h' v' m'
-  pub refused : (c : Command) → parsed b ≡ Whole c → refusal_of (state_of h v m) c ≢ check.Pass →
+  pub refused : (c : Command) → parsed b ≡ Whole c → refusal_of (state_of h v m) c ≢ (Ok tt) →
       Stops (refusal_of (state_of h v m) c) offset l turn l' × Same h v m h' v' m'
   -- otherwise the command is performed
-  pub goes_on : (c : Command) → parsed b ≡ Whole c → refusal_of (state_of h v m) c ≡ check.Pass → Goes c (size_of (get_or b 0 0)) h v m l turn h' v' m' l'
+  pub goes_on : (c : Command) → parsed b ≡ Whole c → refusal_of (state_of h v m) c ≡ Ok tt → Goes c (size_of (get_or b 0 0)) h v m l turn h' v' m' l'

@@ -2,14 +2,12 @@
 // Entries: Turn::number, start. The rest is public for the crates above only.
 #![tactic(auto)]
 
-ghost use Rattle.std.specs.Prelude.{◌≡◌, Bool, List, ℕ, length};
+ghost use Rattle.std.specs.Prelude.{◌≡◌, Bool, List, ℕ, length, Ok};
 ghost use Rattle.lines.specs.Lines.{line_length};
-ghost use Rattle.refusals.specs.declared.Check.TheVariants as check;
 ghost use Rattle.commands.specs.Commands.{parsed};
 ghost use Rattle.commands.specs.declared.Parsed.TheVariants as parsedAs;
 ghost use Rattle.turns.specs.Turns.{turn_number, Stops, Turns, unplanned};
 
-use act::Held;
 use lines::{end_line, refused_line};
 use plan::Plan;
 use refusals::Refusal;
@@ -43,21 +41,18 @@ impl Turn {
 #[derive(Clone, Copy)]
 pub struct Step {
     pub turn: Turn,
-    pub held: Held,
+    pub held: Option<Plan>,
 }
 
 // A job starts with no plan.
-pub fn start() -> Held
+pub fn start() -> Option<Plan>
     ensures { result ≡ unplanned }
 {
-    Held {
-        planned: false,
-        plan: Plan::none(),
-    }
+    None
 }
 
 // No bytes are at hand.
-pub fn at_end(held: Held, line: &mut [u8], last: bool) -> Step
+pub fn at_end(held: Option<Plan>, line: &mut [u8], last: bool) -> Step
     requires { length line.old ≡ line_length }
     ensures { (v m b : List ℕ) (offset : ℕ) → parsed b ≡ parsedAs.Nothing → Turns held v m line.old b last offset result.turn result.held v m line.new }
 {
@@ -75,7 +70,7 @@ pub fn at_end(held: Held, line: &mut [u8], last: bool) -> Step
 }
 
 // The first byte is no command's.
-pub fn unknown(held: Held, line: &mut [u8], offset: u64) -> Step
+pub fn unknown(held: Option<Plan>, line: &mut [u8], offset: u64) -> Step
     requires { length line.old ≡ line_length }
     ensures { (v m b : List ℕ) (last : Bool) → parsed b ≡ parsedAs.Unknown → Turns held v m line.old b last offset result.turn result.held v m line.new }
 {
@@ -83,7 +78,7 @@ pub fn unknown(held: Held, line: &mut [u8], offset: u64) -> Step
 }
 
 // The bytes end inside a command.
-pub fn cut_off(held: Held, line: &mut [u8], last: bool, offset: u64) -> Step
+pub fn cut_off(held: Option<Plan>, line: &mut [u8], last: bool, offset: u64) -> Step
     requires { length line.old ≡ line_length }
     ensures { (v m b : List ℕ) → parsed b ≡ parsedAs.Short → Turns held v m line.old b last offset result.turn result.held v m line.new }
 {
@@ -97,9 +92,9 @@ pub fn cut_off(held: Held, line: &mut [u8], last: bool, offset: u64) -> Step
 }
 
 // The refusal is written; nothing else changes.
-pub fn stop(held: Held, line: &mut [u8], x: Refusal, offset: u64) -> Step
+pub fn stop(held: Option<Plan>, line: &mut [u8], x: Refusal, offset: u64) -> Step
     requires { length line.old ≡ line_length }
-    ensures { (result.held ≡ held) × Stops (check.Stop x) offset line.old result.turn line.new }
+    ensures { (result.held ≡ held) × Stops (Err x) offset line.old result.turn line.new }
 {
     let count = refused_line(line, 0, x.number(), offset);
     Step {

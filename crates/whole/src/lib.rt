@@ -10,7 +10,7 @@ ghost use Rattle.whole.specs.Whole.{Summed, Intact};
 
 use answers::Recovery;
 use settling::fill::fill;
-use slices::{clear_words, zero_bytes};
+use slices::zero_bytes;
 use sums::syndromes;
 
 // The row sums of the block. The answer: no place is marked and every row sums to 0, so the block is the codeword.
@@ -54,6 +54,6 @@ pub fn put_in(
 pub fn recovered(witness: &mut [u16]) -> Recovery
     ensures { (result ≡ Recovery.Recovered) × (witness.new ≡ replicate (length witness.old) 0) }
 {
-    clear_words(&mut witness[..]);
+    witness.fill(0);
     Recovery::Recovered
 }

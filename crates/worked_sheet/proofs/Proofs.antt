@@ -11,7 +11,7 @@ use Rattle.math.specs.Padded.{padded}
 use Rattle.bounds.specs.Bounds.{size_fits}
 use Rattle.shifts.specs.Shifts as shifts
 use Rattle.plan.specs.Layout.{layout}
-use Rattle.plan.specs.Plans.{plan, no_plan, made, answered, blank_of, with_shift, layout_of}
+use Rattle.plan.specs.Plans.{plan, no_plan, answered, blank_of, with_shift, layout_of}
 use Rattle.plan.specs.declared.Plan.{Plan}
 use Rattle.code.specs.Places.{places}
 use Rattle.code.specs.Codewords.{at, bit_of}
@@ -184,7 +184,7 @@ module _ (results : Specimens) where
       (sheets.goes_on (held zeros six_marks) [] _ (MarkOne 17) refl refl (mark_means zeros sixth) loose_line)))))
 
   sheet_of : Sheet 0 start sample_job sample_sheet
-  unfolding parsed size_of command_of refusal_of early size_fits Means start no_plan blank_of answered made fresh plan with_shift with_plan with_block mark_bytes layout_of
+  unfolding parsed size_of command_of refusal_of early size_fits Means start no_plan blank_of answered fresh plan with_shift with_plan with_block mark_bytes layout_of
   sheet_of =
       sheets.goes_on (fresh (planned 0 0 0)) [] _ (NewPlan 3 7) refl refl (refl, refl)
       (sheets.goes_on (fresh (planned 0 1 0)) [] _ (SetShift 1 1) refl refl (refl, refl)

@@ -1,63 +1,68 @@
 // 01's ring, here a cycle: an even number of distinct places, sharing a top row and a bottom row in turn, the last and the
 // first a bottom row; no row twice; from its lowest place; marked places only.
-use crate::buffers::{Bytes, Words, bit, get8, get16, put8, zeros16};
-use crate::numbers::{plus, remainder};
-use crate::second::rows::{bottom, places, rows, top};
+use crate::marks::is_marked;
+use crate::second::rows::{bottom, places, top};
 use plan::Plan;
+use std::alloc::{AllocError, Global};
 
 // The row by which the i-th place of the list goes on.
 fn row_of(plan: Plan, i: usize, c: usize) -> usize {
     if i % 2 == 0 {
-        return top(plan, c);
+        top(plan, c)
+    } else {
+        bottom(plan, c)
     }
-    bottom(plan, c)
 }
 
-// Whether a number is met for the first time.
-fn is_new(c: usize, met: &mut Bytes) -> bool {
-    if get8(&*met, c) != 0 {
-        return false;
+// Whether no number, each below a bound, is met twice.
+fn are_distinct(alloc: Global, numbers: &[usize], bound: usize) -> Result<bool, AllocError> {
+    let mut met = vec![in alloc; false; bound]?;
+    for x in numbers {
+        match met.get_mut(*x) {
+            Some(is_met) if !*is_met => *is_met = true,
+            _ => return Ok(false),
+        }
     }
-    put8(met, c, 1);
-    true
+    Ok(true)
 }
 
-// Whether a place of the list is erased, and not below the first.
-fn place_fits(plan: Plan, marks: &Bytes, first: usize, c: usize) -> bool {
-    (c < places(plan)) & (bit(marks, c) != 0) & (first <= c)
+// Whether the places are erased ones, and none is below the first.
+fn are_erased(plan: Plan, marks: &[u8], ring: &[usize]) -> bool {
+    let lowest = ring.first().copied().unwrap_or(0);
+    ring.iter().all(|c| *c < places(plan) && is_marked(marks, *c) && lowest <= *c)
 }
 
-fn places_fit(plan: Plan, marks: &Bytes, list: &Words, z: usize) -> bool {
-    let mut met = [0u8; 32784];
-    let first = get16(list, 0);
-    let mut all = true;
-    for i in 0..z {
-        let c = get16(list, i);
-        all = all & place_fits(plan, marks, first, c) & is_new(c, &mut met);
-    }
-    all
-}
-
-// Whether the place after the i-th has the row by which the list goes on.
-fn row_fits(plan: Plan, list: &Words, z: usize, i: usize, r: usize) -> bool {
-    row_of(plan, i, get16(list, remainder(plus(i, 1), z))) == r
-}
-
-fn rows_fit(plan: Plan, list: &Words, z: usize) -> bool {
-    let mut passed = [0u8; 32784];
-    let mut all = true;
-    for i in 0..z {
-        let r = row_of(plan, i, get16(list, i));
-        all = all & row_fits(plan, list, z, i, r) & is_new(r, &mut passed);
-    }
-    all
+// Whether each place has the row by which the one before it goes on.
+fn are_joined(plan: Plan, ring: &[usize]) -> bool {
+    let following = ring.iter().skip(1).chain(ring.first());
+    ring.iter().zip(following).enumerate().all(|(i, (c, next))| row_of(plan, i, *c)
+        == row_of(plan, i, *next))
 }
 
 // Whether the list is a cycle of z erased places, then zeros.
-pub(crate) fn is_cycle(plan: Plan, marks: &Bytes, list: &Words, z: usize) -> bool {
-    let end = rows(plan);
-    if (z < 2) | (z % 2 != 0) | (end < z) {
-        return false;
-    }
-    places_fit(plan, marks, list, z) & rows_fit(plan, list, z) & zeros16(list, z, end)
+pub(crate) fn is_cycle(
+    alloc: Global,
+    plan: Plan,
+    marks: &[u8],
+    list: &[u16],
+    z: usize,
+) -> Result<bool, AllocError> {
+    let Some((listed, rest)) = list.split_at_checked(z) else {
+        return Ok(false);
+    };
+    let ring: Vec<usize> = listed.iter().map(|c| usize::from(*c)).collect(alloc)?;
+    let rows: Vec<usize> = ring
+        .iter()
+        .enumerate()
+        .map(|(i, c)| row_of(plan, i, *c))
+        .collect(alloc)?;
+    Ok(
+        2 <= z
+            && z % 2 == 0
+            && rest.iter().all(|c| *c == 0)
+            && are_erased(plan, marks, &ring)
+            && are_joined(plan, &ring)
+            && are_distinct(alloc, &ring, places(plan))?
+            && are_distinct(alloc, &rows, list.len())?,
+    )
 }

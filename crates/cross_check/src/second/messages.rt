@@ -1,118 +1,97 @@
 // 01: a place is a check place exactly when no ring has it as its lowest place: its two rows are not joined by places above it.
 // The places are taken from the highest down, and every join renames the labels of all rows.
-use crate::buffers::{Bytes, Words, get8, get16, put8, put16};
-use crate::numbers::{minus, plus, wide8};
 use crate::second::labels::alone;
-use crate::second::peeling::{is_settled, settle};
-use crate::second::rows::{bottom, places, rows, top};
+use crate::second::peeling::{is_settled, put_known, settle};
+use crate::second::rows::{bottom, places, top};
 use plan::Plan;
+use std::alloc::{AllocError, Global};
 
-fn rename_row(r: usize, from: usize, to: usize, label: &mut Words) {
-    if get16(&*label, r) == from {
-        put16(label, r, to);
+// Whether the two rows of place c are not joined yet: they are then.
+pub(crate) fn visit(plan: Plan, c: usize, label: &mut [usize]) -> bool {
+    let (Some(from), Some(to)) = (
+        label.get(top(plan, c)).copied(),
+        label.get(bottom(plan, c)).copied(),
+    ) else {
+        return false;
+    };
+    if from == to {
+        return false;
     }
+    for l in label.iter_mut() {
+        if *l == from {
+            *l = to;
+        }
+    }
+    true
 }
 
-fn rename(end: usize, from: usize, to: usize, label: &mut Words) {
-    for r in 0..end {
-        rename_row(r, from, to, &mut *label);
+// For each place whether it is a parity place.
+pub(crate) fn parities(alloc: Global, plan: Plan) -> Result<Vec<bool>, AllocError> {
+    let mut label = alone(alloc, plan)?;
+    let mut parity = vec![in alloc; false; places(plan)]?;
+    for (c, is_parity) in parity.iter_mut().enumerate().rev() {
+        *is_parity = visit(plan, c, &mut label);
     }
-}
-
-// 1 where the two rows of place c are not joined yet: they are then.
-pub(crate) fn visit(plan: Plan, c: usize, label: &mut Words) -> u8 {
-    let x = get16(&*label, top(plan, c));
-    let y = get16(&*label, bottom(plan, c));
-    if x == y {
-        return 0;
-    }
-    rename(rows(plan), x, y, label);
-    1
-}
-
-// A byte for each place: 1 where it is a parity place.
-pub(crate) fn parities(plan: Plan, parity: &mut Bytes) {
-    let end = places(plan);
-    let mut label = [0u16; 4112];
-    alone(rows(plan), &mut label);
-    for i in 0..end {
-        let c = minus(minus(end, i), 1);
-        put8(&mut *parity, c, visit(plan, c, &mut label));
-    }
-}
-
-// The sum of the first k bytes.
-fn sum(k: usize, s: &Bytes) -> usize {
-    let mut total: usize = 0;
-    for i in 0..k {
-        total = plus(total, wide8(get8(s, i)));
-    }
-    total
+    Ok(parity)
 }
 
 // The number of message places.
-pub(crate) fn count(plan: Plan) -> usize {
-    let mut parity = [0u8; 32784];
-    parities(plan, &mut parity);
-    minus(places(plan), sum(places(plan), &parity))
+pub(crate) fn count(alloc: Global, plan: Plan) -> Result<usize, AllocError> {
+    let parity = parities(alloc, plan)?;
+    Ok(parity.iter().filter(|is_parity| !**is_parity).count())
 }
 
 // Works out the parity places of a block that holds its message.
-pub(crate) fn complete(plan: Plan, block: &mut Bytes) {
-    let mut parity = [0u8; 32784];
-    parities(plan, &mut parity);
-    settle(plan, block, &mut parity);
-}
-
-fn either(is_first: bool, a: usize, b: usize) -> usize {
-    if is_first {
-        return a;
-    }
-    b
-}
-
-// Symbol i of the message and place c of the block, one from the other. The number of symbols used up after place c.
-fn carry_one(
-    is_reading: bool,
-    parity: &Bytes,
-    from: &Bytes,
-    c: usize,
-    i: usize,
-    to: &mut Bytes,
-) -> usize {
-    if get8(parity, c) != 0 {
-        return i;
-    }
-    put8(
-        to,
-        either(is_reading, i, c),
-        get8(from, either(is_reading, c, i)),
-    );
-    plus(i, 1)
-}
-
-fn carry(is_reading: bool, end: usize, parity: &Bytes, from: &Bytes, to: &mut Bytes) {
-    let mut i: usize = 0;
-    for c in 0..end {
-        i = carry_one(is_reading, parity, from, c, i, &mut *to);
-    }
+pub(crate) fn complete(alloc: Global, plan: Plan, block: &mut [u8]) -> Result<(), AllocError> {
+    let parity = parities(alloc, plan)?;
+    let mut symbols: Vec<Option<u8>> = block
+        .iter()
+        .zip(&parity)
+        .map(|(symbol, is_parity)| (!*is_parity).then_some(*symbol))
+        .collect(alloc)?;
+    settle(plan, &mut symbols);
+    put_known(&symbols, block);
+    Ok(())
 }
 
 // The codeword that carries the message.
-pub(crate) fn encode(plan: Plan, message: &Bytes, block: &mut Bytes) {
-    let mut parity = [0u8; 32784];
-    parities(plan, &mut parity);
-    carry(false, places(plan), &parity, message, &mut *block);
-    settle(plan, block, &mut parity);
+pub(crate) fn encode(
+    alloc: Global,
+    plan: Plan,
+    message: &[u8],
+    block: &mut [u8],
+) -> Result<(), AllocError> {
+    let parity = parities(alloc, plan)?;
+    let mut symbols = vec![in alloc; None; parity.len()]?;
+    let mut message = message.iter();
+    for (symbol, is_parity) in symbols.iter_mut().zip(&parity) {
+        if !*is_parity {
+            *symbol = message.next().copied();
+        }
+    }
+    settle(plan, &mut symbols);
+    put_known(&symbols, block);
+    Ok(())
 }
 
-// The message of a codeword; of any other block none. The answer is the number of 01.
-pub(crate) fn read(plan: Plan, block: &Bytes, message: &mut Bytes) -> usize {
-    let mut parity = [0u8; 32784];
-    if !is_settled(plan, block, &parity) {
-        return 5;
+// Whether the block is a codeword: its message is then read.
+pub(crate) fn read(
+    alloc: Global,
+    plan: Plan,
+    block: &[u8],
+    message: &mut [u8],
+) -> Result<bool, AllocError> {
+    let symbols: Vec<Option<u8>> = block.iter().map(|symbol| Some(*symbol)).collect(alloc)?;
+    if !is_settled(plan, &symbols) {
+        return Ok(false);
     }
-    parities(plan, &mut parity);
-    carry(true, places(plan), &parity, block, message);
-    0
+    let parity = parities(alloc, plan)?;
+    let carried = block
+        .iter()
+        .zip(&parity)
+        .filter(|(_, is_parity)| !**is_parity);
+    for (to, (symbol, _)) in message.iter_mut().zip(carried) {
+        *to = *symbol;
+    }
+    Ok(true)
 }

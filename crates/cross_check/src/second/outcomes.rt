@@ -1,65 +1,56 @@
 // Recovery by 01: the fixed point settles every place, or the components decide between crossed and loose.
-use crate::buffers::{Bytes, Words, bit, clear16, copy8, put8};
-use crate::second::labels::{first_crossed, labels, list_rows, totals};
-use crate::second::peeling::{is_settled, settle};
-use crate::second::rows::{places, rows};
+use crate::marks::is_marked;
+use crate::second::labels::{first_crossed, labels, list_rows};
+use crate::second::peeling::{is_settled, put_known, settle};
 use plan::Plan;
+use std::alloc::{AllocError, Global};
 
-// The number of 01 and the count of the list; of a loose block the list is left to the other implementation.
+// A crossed block has the count of its list; of a loose block the list is left to the other implementation.
 #[derive(Clone, Copy)]
-pub(crate) struct Outcome {
-    pub(crate) number: usize,
-    pub(crate) count: usize,
+pub(crate) enum Recovered {
+    Whole,
+    Crossed(usize),
+    Loose,
 }
 
-// A byte for each place: 1 where it is erased.
-fn spread_bits(end: usize, marks: &Bytes, erased: &mut Bytes) {
-    for c in 0..end {
-        put8(&mut *erased, c, bit(marks, c));
-    }
-}
-
-// Whether the passes settle all that is erased and every row then sums to 0. The block is written only then.
-fn settles(plan: Plan, erased: &Bytes, block: &mut Bytes) -> bool {
-    let mut work = [0u8; 32784];
-    let mut left = [0u8; 32784];
-    let end = places(plan);
-    copy8(end, &*block, &mut work);
-    copy8(end, erased, &mut left);
-    settle(plan, &mut work, &mut left);
-    if !is_settled(plan, &work, &left) {
-        return false;
-    }
-    copy8(end, &work, block);
-    true
+// The symbols of a block, the marked ones not known.
+fn unmarked(alloc: Global, marks: &[u8], block: &[u8]) -> Result<Vec<Option<u8>>, AllocError> {
+    block
+        .iter()
+        .enumerate()
+        .map(|(c, symbol)| (!is_marked(marks, c)).then_some(*symbol))
+        .collect(alloc)
 }
 
 // Crossed with its list, or loose.
-fn explain(plan: Plan, erased: &Bytes, block: &Bytes, list: &mut Words) -> Outcome {
-    let mut label = [0u16; 4112];
-    let mut total = [0u16; 4112];
-    labels(plan, erased, &mut label);
-    totals(plan, block, erased, &label, &mut total);
-    let lowest = first_crossed(plan, &total);
-    if rows(plan) <= lowest {
-        return Outcome {
-            number: 6,
-            count: 0,
-        };
+fn explain(
+    alloc: Global,
+    plan: Plan,
+    symbols: &[Option<u8>],
+    list: &mut [u16],
+) -> Result<Recovered, AllocError> {
+    let label = labels(alloc, plan, symbols)?;
+    match first_crossed(alloc, plan, symbols, &label)? {
+        Some(lowest) => Ok(Recovered::Crossed(list_rows(&label, lowest, list))),
+        None => Ok(Recovered::Loose),
     }
-    let count = list_rows(plan, &label, lowest, list);
-    Outcome { number: 5, count }
 }
 
-pub(crate) fn recover(plan: Plan, marks: &Bytes, block: &mut Bytes, list: &mut Words) -> Outcome {
-    let mut erased = [0u8; 32784];
-    spread_bits(places(plan), marks, &mut erased);
-    clear16(&mut *list, rows(plan));
-    if settles(plan, &erased, &mut *block) {
-        return Outcome {
-            number: 0,
-            count: 0,
-        };
+// The block is written only where the passes settle all that is erased and every row then sums to 0.
+pub(crate) fn recover(
+    alloc: Global,
+    plan: Plan,
+    marks: &[u8],
+    block: &mut [u8],
+    list: &mut [u16],
+) -> Result<Recovered, AllocError> {
+    let symbols = unmarked(alloc, marks, block)?;
+    let mut work = symbols.to_vec(alloc)?;
+    list.fill(0);
+    settle(plan, &mut work);
+    if is_settled(plan, &work) {
+        put_known(&work, block);
+        return Ok(Recovered::Whole);
     }
-    explain(plan, &erased, &*block, list)
+    explain(alloc, plan, &symbols, list)
 }

@@ -1,93 +1,70 @@
-// The whole-block fixed point: passes over all rows, up and down in turn, in which a row with exactly one erased place
+// The whole-block fixed point: passes over all rows, up and down in turn, in which a row with exactly one unknown symbol
 // settles it. Each row is looked at anew every time.
-use crate::buffers::{Bytes, get8, put8};
-use crate::numbers::{minus, plus};
 use crate::second::rows::{place_on, rows};
 use plan::Plan;
 
-// What a row shows: the number of its erased places, the last of them, and the sum of its other symbols.
-#[derive(Clone, Copy)]
-pub(crate) struct View {
-    pub(crate) erased: usize,
-    pub(crate) last: usize,
-    pub(crate) sum: u8,
-}
-
-fn with_place(found: View, c: usize, block: &Bytes, erased: &Bytes) -> View {
-    if get8(erased, c) != 0 {
-        return View {
-            erased: plus(found.erased, 1),
-            last: c,
-            sum: found.sum,
-        };
-    }
-    View {
-        erased: found.erased,
-        last: found.last,
-        sum: found.sum ^ get8(block, c),
+// The only place of a row whose symbol is not known; none where there are more, or none.
+fn only_unknown(plan: Plan, symbols: &[Option<u8>], r: usize) -> Option<usize> {
+    let mut unknown = (0..plan.n)
+        .map(|j| place_on(plan, r, j))
+        .filter(|c| symbols.get(*c) == Some(&None));
+    let c = unknown.next()?;
+    match unknown.next() {
+        None => Some(c),
+        Some(_) => None,
     }
 }
 
-pub(crate) fn look(plan: Plan, block: &Bytes, erased: &Bytes, r: usize) -> View {
-    let n = plan.n;
-    let mut found = View {
-        erased: 0,
-        last: 0,
-        sum: 0,
+// The sum of the known symbols of a row.
+pub(crate) fn sum(plan: Plan, symbols: &[Option<u8>], r: usize) -> u8 {
+    (0..plan.n)
+        .filter_map(|j| symbols.get(place_on(plan, r, j)).copied().flatten())
+        .fold(0, |sum, symbol| sum ^ symbol)
+}
+
+// Whether the row settles a place.
+fn settle_row(plan: Plan, r: usize, symbols: &mut [Option<u8>]) -> bool {
+    let Some(c) = only_unknown(plan, symbols, r) else {
+        return false;
     };
-    for j in 0..n {
-        found = with_place(found, place_on(plan, r, j), block, erased);
+    let settled = sum(plan, symbols, r);
+    if let Some(symbol) = symbols.get_mut(c) {
+        *symbol = Some(settled);
     }
-    found
+    true
 }
 
-// 1 where the row settles a place.
-fn settle_row(plan: Plan, r: usize, block: &mut Bytes, erased: &mut Bytes) -> usize {
-    let found = look(plan, &*block, &*erased, r);
-    if found.erased != 1 {
-        return 0;
-    }
-    put8(block, found.last, found.sum);
-    put8(erased, found.last, 0);
-    1
-}
-
-// The i-th of k numbers, from below or from above.
-pub(crate) fn in_turn(is_down: bool, k: usize, i: usize) -> usize {
-    if is_down {
-        return minus(minus(k, i), 1);
-    }
-    i
-}
-
-// How many places a pass settles.
-fn pass(plan: Plan, is_down: bool, block: &mut Bytes, erased: &mut Bytes) -> usize {
+// Whether a pass settles a place.
+fn pass(plan: Plan, is_down: bool, symbols: &mut [Option<u8>]) -> bool {
     let end = rows(plan);
-    let mut settled: usize = 0;
+    let mut any = false;
     for i in 0..end {
-        let r = in_turn(is_down, end, i);
-        settled = plus(settled, settle_row(plan, r, &mut *block, &mut *erased));
+        let r = if is_down { end - 1 - i } else { i };
+        any |= settle_row(plan, r, symbols);
     }
-    settled
+    any
 }
 
 // Passes until one settles nothing. Every other settles a place, and no more than 2t can be settled.
-pub(crate) fn settle(plan: Plan, block: &mut Bytes, erased: &mut Bytes) {
-    let end = plus(rows(plan), 1);
-    for i in 0..end {
-        if pass(plan, i % 2 == 1, &mut *block, &mut *erased) == 0 {
+pub(crate) fn settle(plan: Plan, symbols: &mut [Option<u8>]) {
+    for i in 0..=rows(plan) {
+        if !pass(plan, i % 2 == 1, symbols) {
             return;
         }
     }
 }
 
-// Whether no place is erased and every row sums to 0.
-pub(crate) fn is_settled(plan: Plan, block: &Bytes, erased: &Bytes) -> bool {
-    let end = rows(plan);
-    let mut all = true;
-    for r in 0..end {
-        let found = look(plan, block, erased, r);
-        all = all & (found.erased == 0) & (found.sum == 0);
+// Whether every symbol is known and every row sums to 0.
+pub(crate) fn is_settled(plan: Plan, symbols: &[Option<u8>]) -> bool {
+    symbols.iter().all(|symbol| symbol.is_some())
+        && (0..rows(plan)).all(|r| sum(plan, symbols, r) == 0)
+}
+
+// The known symbols, into the block.
+pub(crate) fn put_known(symbols: &[Option<u8>], block: &mut [u8]) {
+    for (to, symbol) in block.iter_mut().zip(symbols) {
+        if let Some(symbol) = symbol {
+            *to = *symbol;
+        }
     }
-    all
 }

@@ -1,48 +1,50 @@
-// What is turned away, in the order of 01's table. 0 is none.
-use crate::buffers::{Bytes, bit};
-use crate::numbers::{plus, times, wide8};
+// What is turned away, in the order of 01's table.
+use crate::marks::is_marked;
 use crate::second::rows::shift;
 use plan::Plan;
 
-// 1 where n, t or n × t is out of bounds.
-pub(crate) fn of_size(n: usize, t: usize) -> usize {
-    let is_outside = (n < 2) | (32 < n) | (t < 1) | (2048 < t) | (32768 < times(n, t));
-    is_outside as usize
+#[derive(Clone, Copy, PartialEq, Eq)]
+pub(crate) enum Refused {
+    Size,
+    Shift,
+    Length,
+    Spare,
+    Family,
 }
 
-// 2 where one of the first n shifts is t or more.
-fn of_shifts(plan: Plan) -> usize {
-    let n = plan.n;
-    let t = plan.t;
-    let mut any = false;
-    for j in 0..n {
-        any = any | (t <= shift(plan, j));
+// Where n, t or n × t is out of bounds.
+pub(crate) fn of_size(n: usize, t: usize) -> Result<(), Refused> {
+    if n < 2 || 32 < n || t < 1 || 2048 < t || 32768 < n.wrapping_mul(t) {
+        return Err(Refused::Size);
     }
-    times(2, any as usize)
+    Ok(())
 }
 
-pub(crate) fn of_plan(plan: Plan) -> usize {
-    if of_size(plan.n, plan.t) != 0 {
-        return 1;
+// Then where one of the first n shifts is t or more.
+pub(crate) fn of_plan(plan: Plan) -> Result<(), Refused> {
+    of_size(plan.n, plan.t)?;
+    if (0..plan.n).any(|j| plan.t <= shift(plan, j)) {
+        return Err(Refused::Shift);
     }
-    of_shifts(plan)
+    Ok(())
 }
 
-// The number of bits that are 1 from place c up to the end.
-pub(crate) fn bits(marks: &Bytes, from: usize, end: usize) -> usize {
-    let mut sum: usize = 0;
-    for c in from..end {
-        sum = plus(sum, wide8(bit(marks, c)));
-    }
-    sum
+// The number of marked places from one place up to another.
+pub(crate) fn marked(marks: &[u8], from: usize, end: usize) -> usize {
+    (from..end).filter(|c| is_marked(marks, *c)).count()
 }
 
 pub(crate) fn mark_bytes(places: usize) -> usize {
-    plus(places, 7) / 8
+    places.div_ceil(8)
 }
 
-// 4 where a spare bit is 1.
-pub(crate) fn of_spare(places: usize, marks: &Bytes) -> usize {
-    let is_spare = bits(marks, places, times(8, mark_bytes(places))) != 0;
-    times(4, is_spare as usize)
+// Where the marks have another length, or a spare bit is 1.
+pub(crate) fn of_marks(places: usize, marks: &[u8]) -> Result<(), Refused> {
+    if marks.len() != mark_bytes(places) {
+        return Err(Refused::Length);
+    }
+    if 0 < marked(marks, places, marks.len().wrapping_mul(8)) {
+        return Err(Refused::Spare);
+    }
+    Ok(())
 }

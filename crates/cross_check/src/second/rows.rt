@@ -1,23 +1,20 @@
 // 01: place c = j × t + k meets top row k and bottom row t + ((k - p_j) mod t).
-use crate::numbers::{minus, plus, quotient, remainder, times, wide16};
+use crate::numbers::{quotient, remainder};
 use plan::Plan;
 
 // n × t.
 pub(crate) fn places(plan: Plan) -> usize {
-    times(plan.n, plan.t)
+    plan.n.wrapping_mul(plan.t)
 }
 
 // 2t.
 pub(crate) fn rows(plan: Plan) -> usize {
-    plus(plan.t, plan.t)
+    plan.t.wrapping_mul(2)
 }
 
+// The shift of section j; of a section that no plan has it is 0.
 pub(crate) fn shift(plan: Plan, j: usize) -> usize {
-    let s = plan.shifts;
-    if j < 32 {
-        return wide16(s[j]);
-    }
-    0
+    plan.shifts.get(j).map_or(0, |p| usize::from(*p))
 }
 
 pub(crate) fn top(plan: Plan, c: usize) -> usize {
@@ -27,14 +24,17 @@ pub(crate) fn top(plan: Plan, c: usize) -> usize {
 pub(crate) fn bottom(plan: Plan, c: usize) -> usize {
     let t = plan.t;
     let p = shift(plan, quotient(c, t));
-    plus(t, remainder(minus(plus(remainder(c, t), t), p), t))
+    let k = remainder(c, t).wrapping_add(t).wrapping_sub(p);
+    remainder(k, t).wrapping_add(t)
 }
 
 // The place of section j that meets row r.
 pub(crate) fn place_on(plan: Plan, r: usize, j: usize) -> usize {
     let t = plan.t;
-    if r < t {
-        return plus(times(j, t), r);
-    }
-    plus(times(j, t), remainder(plus(minus(r, t), shift(plan, j)), t))
+    let k = if r < t {
+        r
+    } else {
+        remainder((r - t).wrapping_add(shift(plan, j)), t)
+    };
+    j.wrapping_mul(t).wrapping_add(k)
 }

@@ -1,215 +1,150 @@
 // The cases that 01 names, each with the outcome that it must have.
-use crate::buffers::{Bytes, Words, get8, same16};
-use crate::numbers::plus;
 use crate::second::rows::shift;
-use crate::tally::{
-    CROSSED, ENDED, FAMILY, FIGURES, LOOSE, MISMATCH, PLANNED, READ, READ_CROSSED, RECOVERED,
-    SEALED, SIZE, Tally, judged, note,
-};
-use crate::tries::lent::Lens;
-use crate::tries::{given, jobs, lent, plans, seeded};
-use figures::Answer;
-use plan::{Count, Plan};
+use crate::tally::{Answer, Outcome, Tally};
+use crate::tries::given::{Erasure, Style};
+use crate::tries::{given, jobs, lent, library, plans, seeded};
+use plan::Plan;
+use std::alloc::{AllocError, Global};
 
-// The outcome, where it is the one that it must be.
-fn must(outcome: usize, known: usize) -> usize {
-    judged(outcome == known, outcome)
-}
+// n, t, and what becomes of n sections of t symbols.
+const SIZES: [(usize, usize, Outcome); 9] = [
+    (16, 2048, Outcome::Planned),
+    (32, 1024, Outcome::Planned),
+    (2, 2048, Outcome::Planned),
+    (2, 5, Outcome::Planned),
+    (32, 5, Outcome::Planned),
+    (29, 1130, Outcome::Size),
+    (2, 2049, Outcome::Size),
+    (1, 5, Outcome::Size),
+    (33, 5, Outcome::Size),
+];
 
-// n sections of t symbols: by the constructor with all shifts 0, or by the record.
-fn sized(is_record: bool, n: usize, t: usize, known: usize) -> usize {
-    if is_record {
-        return must(plans::verdict(given::plan_of(n, t, 9, 0)), known);
-    }
-    let shifts = [0u16; 32];
-    must(plans::of(Plan::raw(n, t, shifts), n), known)
-}
-
-fn size_case(is_record: bool, i: usize) -> usize {
-    match i {
-        0 => sized(is_record, 16, 2048, PLANNED),
-        1 => sized(is_record, 32, 1024, PLANNED),
-        2 => sized(is_record, 2, 2048, PLANNED),
-        3 => sized(is_record, 2, 5, PLANNED),
-        4 => sized(is_record, 32, 5, PLANNED),
-        5 => sized(is_record, 29, 1130, SIZE),
-        6 => sized(is_record, 2, 2049, SIZE),
-        7 => sized(is_record, 1, 5, SIZE),
-        _ => sized(is_record, 33, 5, SIZE),
+// By the record, and by the constructor with all shifts 0.
+fn sizes(tally: &mut Tally) {
+    for (n, t, known) in SIZES {
+        let record = given::plan_of(n, t, Style::Any, 0);
+        tally.note(plans::verdict(record).must_be(known));
+        let zeros = Plan::raw(n, t, [0; 32]);
+        tally.note(plans::of(zeros, n).must_be(known));
     }
 }
 
 // Powers 3, 7, 2 has shifts 1 2 4.
-fn powers_taken() -> usize {
-    let made = Plan::powers(3, 7, 2);
-    let plan = made.plan;
-    let is_known = (shift(plan, 0) == 1) & (shift(plan, 1) == 2) & (shift(plan, 2) == 4);
-    judged(is_known, must(plans::powers(3, 7, 2), PLANNED))
+fn powers_taken() -> Outcome {
+    let plan = library::plan_of(Plan::powers(3, 7, 2));
+    let is_known = shift(plan, 0) == 1 && shift(plan, 1) == 2 && shift(plan, 2) == 4;
+    plans::powers(3, 7, 2)
+        .must_be(Outcome::Planned)
+        .judged(is_known)
 }
 
 // The neighbour figure of a ruler plan.
-fn ruler_neighbour(n: usize, known: usize) -> usize {
-    let made = Plan::ruler(n);
-    match figures::figures(made.plan) {
-        Answer::Are(four) => judged(four.neighbour == known, FIGURES),
-        Answer::Not(_) => MISMATCH,
-    }
+fn ruler_neighbour(n: usize, known: usize) -> Outcome {
+    let plan = library::plan_of(Plan::ruler(n));
+    let four = library::measured(figures::figures(plan));
+    Outcome::Figures.judged(four.is_ok_and(|four| four.neighbour == known))
 }
 
 // The third: 3 and 15 at t 48 share 12, 96 / 12 - 1. The last: 76 and 82 at t 183 share 3, 366 / 3 - 1.
-fn family_case(i: usize) -> usize {
-    match i {
-        0 => powers_taken(),
-        1 => must(plans::powers(3, 6, 5), FAMILY),
-        2 => ruler_neighbour(7, 7),
-        _ => ruler_neighbour(14, 121),
-    }
-}
-
-// A ruler plan: its making, its figures, and a block of it.
-fn ruler_case(n: usize, i: usize) -> usize {
-    let made = Plan::ruler(n);
-    let plan = made.plan;
-    let seed = n as u64;
-    match i {
-        0 => must(plans::ruler(n), PLANNED),
-        1 => must(plans::figures(plan), FIGURES),
-        2 => must(seeded::recovery_of(plan, 3, true, seed), RECOVERED),
-        3 => must(seeded::encoding(plan, seed), SEALED),
-        _ => must(seeded::reading(plan, true, seed), READ),
-    }
-}
-
-// Figures, messages, and blocks of each outcome.
-fn full_case(plan: Plan, i: usize) -> usize {
-    match i {
-        0 => must(plans::figures(plan), FIGURES),
-        1 => must(seeded::encoding(plan, 1), SEALED),
-        2 => must(seeded::reading(plan, true, 2), READ),
-        3 => must(seeded::reading(plan, false, 3), READ_CROSSED),
-        4 => must(seeded::recovery_of(plan, 0, true, 4), RECOVERED),
-        5 => must(seeded::recovery_of(plan, 0, false, 5), CROSSED),
-        6 => must(seeded::recovery_of(plan, 1, true, 6), LOOSE),
-        7 => must(seeded::recovery_of(plan, 3, true, 7), RECOVERED),
-        _ => must(seeded::recovery_of(plan, 4, true, 8), RECOVERED),
-    }
-}
-
-// The plan of 01's job.
-fn job_plan() -> Plan {
-    let shifts = [0u16, 1, 3];
-    let made = Plan::of(3, 7, &shifts[..]);
-    made.plan
-}
-
-// What 01's job lends.
-fn job_lens() -> Lens {
-    Lens {
-        block: 21,
-        marks: 3,
-        list: 14,
-        message: 10,
-    }
+fn families(tally: &mut Tally) {
+    tally.note(powers_taken());
+    tally.note(plans::powers(3, 6, 5).must_be(Outcome::Family));
+    tally.note(ruler_neighbour(7, 7));
+    tally.note(ruler_neighbour(14, 121));
 }
 
 // The places 0 2 7, then 10, then 16 17; or without the first.
-fn job_marks(has_first: bool, marks: &mut Bytes) {
-    marks[0] = 132 | (has_first as u8);
-    marks[1] = 4;
-    marks[2] = 3;
-}
+const JOB_MARKS: [u8; 3] = [133, 4, 3];
 
-// Whether the answer to 01's job has this number and count, and its list these places, then zeros.
-fn job(number: usize, count: usize, known: &Words, marks: &Bytes, block: &mut Bytes) -> bool {
-    let mut list = [9u16; 4112];
-    let answer = lent::recover_library(job_plan(), job_lens(), marks, block, &mut list);
-    (answer.number == number) & (answer.count == count) & same16(14, &list, known)
+const LATER_MARKS: [u8; 3] = [132, 4, 3];
+
+// Whether 01's job comes to this answer and list.
+fn job(plan: Plan, marks: &[u8], block: &mut [u8], known: Answer, listed: [u16; 14]) -> bool {
+    let mut list = [9u16; 14];
+    lent::recover_library(plan, marks, block, &mut list) == known && list == listed
 }
 
 // loose 6 0 7 16 2 10 17
-fn job_loose() -> usize {
-    let mut block = [0u8; 32784];
-    let mut marks = [0u8; 32784];
-    let mut known = [0u16; 4112];
-    job_marks(true, &mut marks);
-    known[1] = 7;
-    known[2] = 16;
-    known[3] = 2;
-    known[4] = 10;
-    known[5] = 17;
-    judged(job(6, 6, &known, &marks, &mut block), LOOSE)
-}
-
-fn is_marks(counted: Count, known: usize) -> bool {
-    match counted {
-        Count::Is(k) => k == known,
-        Count::Not(_) => false,
-    }
-}
-
-fn job_counts(marks: &Bytes) -> bool {
-    is_marks(lent::count_library(job_plan(), job_lens(), &marks[..]), 5)
+fn job_loose(plan: Plan) -> Outcome {
+    let outcome = Outcome::Loose;
+    let known = Answer { outcome, count: 6 };
+    let listed = [0, 7, 16, 2, 10, 17, 0, 0, 0, 0, 0, 0, 0, 0];
+    outcome.judged(job(plan, &JOB_MARKS, &mut [0; 21], known, listed))
 }
 
 // recovered 5, and symbol 17 is 5
-fn job_recovered() -> usize {
-    let mut block = [0u8; 32784];
-    let mut marks = [0u8; 32784];
-    let known = [0u16; 4112];
-    job_marks(false, &mut marks);
+fn job_recovered(plan: Plan) -> Outcome {
+    let outcome = Outcome::Recovered;
+    let known = Answer { outcome, count: 0 };
+    let mut block = [0u8; 21];
     block[0] = 5;
-    let is_job = job(0, 0, &known, &marks, &mut block);
-    judged(
-        is_job & (get8(&block, 17) == 5) & job_counts(&marks),
-        RECOVERED,
-    )
+    let is_job = job(plan, &LATER_MARKS, &mut block, known, [0; 14]);
+    let counts = lent::count_library(plan, &LATER_MARKS) == Ok(5);
+    outcome.judged(is_job && block[17] == 5 && counts)
 }
 
 // crossed 1 0: the recovered block with symbol 0 set to 0, and no marks
-fn job_crossed() -> usize {
-    let mut block = [0u8; 32784];
-    let marks = [0u8; 32784];
-    let known = [0u16; 4112];
-    block[2] = 5;
-    block[7] = 5;
-    block[10] = 5;
-    block[16] = 5;
-    block[17] = 5;
-    judged(job(5, 1, &known, &marks, &mut block), CROSSED)
+fn job_crossed(plan: Plan) -> Outcome {
+    let outcome = Outcome::Crossed;
+    let known = Answer { outcome, count: 1 };
+    let mut block = [0u8; 21];
+    for c in [2, 7, 10, 16, 17] {
+        block[c] = 5;
+    }
+    outcome.judged(job(plan, &[0; 3], &mut block, known, [0; 14]))
 }
 
-fn job_case(i: usize) -> usize {
-    match i {
-        0 => job_loose(),
-        1 => job_recovered(),
-        2 => job_crossed(),
-        _ => must(jobs::out_of_bytes(true, 0), ENDED),
-    }
+fn job_cases(alloc: Global, tally: &mut Tally) -> Result<(), AllocError> {
+    let plan = library::plan_of(Plan::of(3, 7, &[0, 1, 3]));
+    tally.note(job_loose(plan));
+    tally.note(job_recovered(plan));
+    tally.note(job_crossed(plan));
+    tally.note(jobs::out_of_bytes(alloc, true, 0)?.must_be(Outcome::Ended));
+    Ok(())
 }
 
-// The cases by number: 18 of sizes, 4 of families, 4 of jobs, 18 of the plans of 32,768 places, then 5 for each ruler
-// from n 3 on.
-fn case(i: usize) -> usize {
-    if i < 18 {
-        return size_case(i % 2 == 0, i / 2);
+// A recovery of each of these erasures, of a block as it was sent or a damaged one, with its seed.
+const RECOVERIES: [(Erasure, bool, u64, Outcome); 5] = [
+    (Erasure::None, true, 4, Outcome::Recovered),
+    (Erasure::None, false, 5, Outcome::Crossed),
+    (Erasure::Each, true, 6, Outcome::Loose),
+    (Erasure::Parity, true, 7, Outcome::Recovered),
+    (Erasure::Few, true, 8, Outcome::Recovered),
+];
+
+// Figures, messages, and blocks of each outcome.
+fn full(alloc: Global, plan: Plan, tally: &mut Tally) -> Result<(), AllocError> {
+    tally.note(plans::figures(alloc, plan)?.must_be(Outcome::Figures));
+    tally.note(seeded::encoding(alloc, plan, 1)?.must_be(Outcome::Sealed));
+    tally.note(seeded::reading(alloc, plan, true, 2)?.must_be(Outcome::Read));
+    tally.note(seeded::reading(alloc, plan, false, 3)?.must_be(Outcome::ReadCrossed));
+    for (erasure, is_sent, seed, known) in RECOVERIES {
+        tally.note(seeded::recovery_of(alloc, plan, erasure, is_sent, seed)?.must_be(known));
     }
-    if i < 22 {
-        return family_case(i - 18);
-    }
-    if i < 26 {
-        return job_case(i - 22);
-    }
-    if i < 35 {
-        return full_case(given::plan_of(16, 2048, 2, 0), i - 26);
-    }
-    if i < 44 {
-        return full_case(given::plan_of(32, 1024, 2, 0), i - 35);
-    }
-    ruler_case(plus(3, (i - 44) / 5), (i - 44) % 5)
+    Ok(())
 }
 
-pub(crate) fn all(tally: &mut Tally) {
-    for i in 0..104 {
-        note(&mut *tally, case(i));
+// A ruler plan: its making, its figures, and a block of it.
+fn ruler(alloc: Global, n: usize, tally: &mut Tally) -> Result<(), AllocError> {
+    let plan = library::plan_of(Plan::ruler(n));
+    let seed = n as u64;
+    tally.note(plans::ruler(n).must_be(Outcome::Planned));
+    tally.note(plans::figures(alloc, plan)?.must_be(Outcome::Figures));
+    let recovered = seeded::recovery_of(alloc, plan, Erasure::Parity, true, seed)?;
+    tally.note(recovered.must_be(Outcome::Recovered));
+    tally.note(seeded::encoding(alloc, plan, seed)?.must_be(Outcome::Sealed));
+    tally.note(seeded::reading(alloc, plan, true, seed)?.must_be(Outcome::Read));
+    Ok(())
+}
+
+pub(crate) fn all(alloc: Global, tally: &mut Tally) -> Result<(), AllocError> {
+    sizes(tally);
+    families(tally);
+    job_cases(alloc, tally)?;
+    full(alloc, given::plan_of(16, 2048, Style::Counting, 0), tally)?;
+    full(alloc, given::plan_of(32, 1024, Style::Counting, 0), tally)?;
+    for n in 3..=14 {
+        ruler(alloc, n, tally)?;
     }
+    Ok(())
 }

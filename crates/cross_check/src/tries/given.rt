@@ -1,266 +1,261 @@
 // What a seed gives: plans, blocks, marks, lengths, and faults in each.
-use crate::buffers::{Bytes, bit, get8, put8, set_bit};
-use crate::numbers::{least, low8, low16, minus, plus, quotient, remainder, times};
-use crate::random::{fill8, next, pick, seeded};
+use crate::marks::{is_marked, mark};
+use crate::numbers::{low8, low16, quotient, remainder};
+use crate::random::{Numbers, fill8, pick, seeded};
 use crate::second::{messages, refusing, rows};
 use crate::tries::lent::Lens;
 use plan::Plan;
+use std::alloc::{AllocError, Global};
 
-// The shift of section j: in pairs, in twos, counting, in sixes, or as it is. Past the first n any number may stand.
-fn shaped(style: usize, n: usize, t: usize, j: usize, p: usize) -> usize {
-    if n <= j {
-        return times(p, 31);
-    }
-    match style {
-        0 => remainder(j / 2, t),
-        1 => remainder(times(p, 2), t),
-        2 => remainder(j, t),
-        3 => remainder(times(p, 6), t),
-        _ => p,
+// How the shifts are made of random numbers below t: in pairs, in twos, counting, in sixes, or as they are.
+#[derive(Clone, Copy)]
+pub(crate) enum Style {
+    Pairs,
+    Twos,
+    Counting,
+    Sixes,
+    Any,
+}
+
+fn picked_style(seed: u64) -> Style {
+    match pick(seed, 3, 8) {
+        0 => Style::Pairs,
+        1 => Style::Twos,
+        2 => Style::Counting,
+        3 => Style::Sixes,
+        _ => Style::Any,
     }
 }
 
-// The shifts of n sections, each of a random number below t.
-fn shapes(style: usize, n: usize, t: usize, seed: u64) -> [u16; 32] {
-    let mut shifts = [0u16; 32];
-    let mut x = seed | 1;
-    for j in 0..32 {
-        x = next(x);
-        let p = remainder((x >> 24) as usize, t);
-        shifts[j] = low16(shaped(style, n, t, j, p));
+// The shift of section j. Past the first n any number may stand.
+fn shaped(style: Style, n: usize, t: usize, j: usize, p: usize) -> usize {
+    if n <= j {
+        return p.wrapping_mul(31);
     }
-    shifts
+    match style {
+        Style::Pairs => remainder(j / 2, t),
+        Style::Twos => remainder(p.wrapping_mul(2), t),
+        Style::Counting => remainder(j, t),
+        Style::Sixes => remainder(p.wrapping_mul(6), t),
+        Style::Any => p,
+    }
 }
 
 // A plan of n sections of t symbols.
-pub(crate) fn plan_of(n: usize, t: usize, style: usize, seed: u64) -> Plan {
-    let shifts = shapes(style, n, t, seed);
+pub(crate) fn plan_of(n: usize, t: usize, style: Style, seed: u64) -> Plan {
+    let mut shifts = [0u16; 32];
+    for ((j, shift), x) in shifts.iter_mut().enumerate().zip(Numbers::new(seed)) {
+        *shift = low16(shaped(style, n, t, j, remainder(x, t)));
+    }
     Plan::raw(n, t, shifts)
 }
 
 // A plan of at most so many sections and symbols.
 pub(crate) fn plan(most_n: usize, most_t: usize, seed: u64) -> Plan {
-    let n = plus(2, pick(seed, 1, minus(most_n, 1)));
-    let t = plus(1, pick(seed, 2, most_t));
-    plan_of(n, t, pick(seed, 3, 8), seeded(seed, 4))
-}
-
-fn with_shift(plan: Plan, j: usize, p: usize) -> Plan {
-    let n = plan.n;
-    let t = plan.t;
-    let mut shifts = plan.shifts;
-    if j < 32 {
-        shifts[j] = low16(p);
-    }
-    Plan::raw(n, t, shifts)
+    let n = pick(seed, 1, most_n.saturating_sub(1)).wrapping_add(2);
+    let t = pick(seed, 2, most_t).wrapping_add(1);
+    plan_of(n, t, picked_style(seed), seeded(seed, 4))
 }
 
 fn with_size(plan: Plan, n: usize, t: usize) -> Plan {
-    let shifts = plan.shifts;
-    Plan::raw(n, t, shifts)
-}
-
-fn spoilt_size(plan: Plan, fault: usize, seed: u64) -> Plan {
-    match fault {
-        0 => with_size(plan, 0, plan.t),
-        1 => with_size(plan, 1, plan.t),
-        2 => with_size(plan, 33, plan.t),
-        3 => with_size(plan, plan.n, 0),
-        4 => with_size(plan, plan.n, 2049),
-        5 => with_size(plan, 29, 1130),
-        6 => with_size(plan, plus(17, pick(seed, 6, 16)), 2048),
-        7 => with_size(plan, 1 << 63, 2),
-        _ => with_size(plan, 2, 1 << 63),
-    }
-}
-
-fn spoilt_shift(plan: Plan, fault: usize, seed: u64) -> Plan {
-    match fault {
-        9 => with_shift(plan, pick(seed, 6, plan.n), plan.t),
-        10 => with_shift(
-            plan,
-            pick(seed, 6, plan.n),
-            plus(plan.t, pick(seed, 7, 60000)),
-        ),
-        11 => with_shift(plan, 0, 65535),
-        12 => with_shift(plan, minus(plan.n, 1), plan.t),
-        _ => plan,
-    }
+    Plan::raw(n, t, plan.shifts)
 }
 
 // The plan with a fault, or as it is.
 pub(crate) fn spoilt(plan: Plan, seed: u64) -> Plan {
-    let fault = pick(seed, 5, 24);
-    if fault < 9 {
-        return spoilt_size(plan, fault, seed);
+    let n = plan.n;
+    let t = plan.t;
+    match pick(seed, 5, 24) {
+        0 => with_size(plan, 0, t),
+        1 => with_size(plan, 1, t),
+        2 => with_size(plan, 33, t),
+        3 => with_size(plan, n, 0),
+        4 => with_size(plan, n, 2049),
+        5 => with_size(plan, 29, 1130),
+        6 => with_size(plan, pick(seed, 6, 16).wrapping_add(17), 2048),
+        7 => with_size(plan, 1 << 63, 2),
+        8 => with_size(plan, 2, 1 << 63),
+        9 => plan.with_shift(pick(seed, 6, n), low16(t)),
+        10 => plan.with_shift(
+            pick(seed, 6, n),
+            low16(t.wrapping_add(pick(seed, 7, 60000))),
+        ),
+        11 => plan.with_shift(0, u16::MAX),
+        12 => plan.with_shift(n.saturating_sub(1), low16(t)),
+        _ => plan,
     }
-    spoilt_shift(plan, fault, seed)
 }
 
+// The places of a plan that may be refused, as far as a block can be lent.
 fn least_of_places(plan: Plan) -> usize {
-    least(rows::places(plan), 32768)
+    rows::places(plan).min(Plan::MAX_PLACES)
 }
 
 // The lengths that the plan asks for; any where the plan is refused.
-pub(crate) fn lens(plan: Plan) -> Lens {
+pub(crate) fn lens(alloc: Global, plan: Plan) -> Result<Lens, AllocError> {
     let block = least_of_places(plan);
-    if refusing::of_plan(plan) != 0 {
-        return Lens {
+    if refusing::of_plan(plan).is_err() {
+        return Ok(Lens {
             block,
             marks: 5,
             list: 6,
             message: 7,
-        };
+        });
     }
-    Lens {
+    Ok(Lens {
         block,
         marks: refusing::mark_bytes(block),
         list: rows::rows(plan),
-        message: messages::count(plan),
-    }
+        message: messages::count(alloc, plan)?,
+    })
 }
 
 // One more, one less, or none.
 fn off(k: usize, seed: u64) -> usize {
     match pick(seed, 8, 3) {
-        0 => plus(k, 1),
-        1 => minus(k, least(k, 1)),
+        0 => k.wrapping_add(1),
+        1 => k.saturating_sub(1),
         _ => 0,
     }
 }
 
 // The lengths with a fault in one, or as they are.
 pub(crate) fn spoilt_lens(lens: Lens, seed: u64) -> Lens {
-    let block = lens.block;
-    let marks = lens.marks;
-    let list = lens.list;
-    let message = lens.message;
     match pick(seed, 9, 8) {
         0 => Lens {
-            block: off(block, seed),
-            marks,
-            list,
-            message,
+            block: off(lens.block, seed),
+            ..lens
         },
         1 => Lens {
-            block,
-            marks: off(marks, seed),
-            list,
-            message,
+            marks: off(lens.marks, seed),
+            ..lens
         },
         2 => Lens {
-            block,
-            marks,
-            list: off(list, seed),
-            message,
+            list: off(lens.list, seed),
+            ..lens
         },
         3 => Lens {
-            block,
-            marks,
-            list,
-            message: off(message, seed),
+            message: off(lens.message, seed),
+            ..lens
         },
         _ => lens,
     }
 }
 
+// Random bytes.
+pub(crate) fn bytes(alloc: Global, length: usize, seed: u64) -> Result<Vec<u8>, AllocError> {
+    let mut found = vec![in alloc; 0u8; length]?;
+    fill8(&mut found, seed);
+    Ok(found)
+}
+
 // A codeword of a random message.
-pub(crate) fn codeword(plan: Plan, seed: u64, block: &mut Bytes) {
-    fill8(&mut *block, least_of_places(plan), seed);
-    messages::complete(plan, block);
+pub(crate) fn codeword(alloc: Global, plan: Plan, seed: u64) -> Result<Vec<u8>, AllocError> {
+    let mut block = bytes(alloc, least_of_places(plan), seed)?;
+    messages::complete(alloc, plan, &mut block)?;
+    Ok(block)
 }
 
 // A number of a seed and a place, below n.
 fn chance(seed: u64, c: usize, n: usize) -> usize {
-    pick(seed, plus(1000, c) as u64, n)
+    pick(seed, c.wrapping_add(1000) as u64, n)
 }
 
 // Whether c is one of k numbers.
 fn is_in(c: usize, from: usize, k: usize) -> bool {
-    (from <= c) & (c < plus(from, k))
+    from <= c && c < from.wrapping_add(k)
 }
 
 // Whether a place is in one of two neighbouring sections, all of them but one place.
 fn is_in_two(places: usize, t: usize, seed: u64, c: usize) -> bool {
-    let from = times(t, pick(seed, 10, quotient(places, t)));
-    let but = plus(from, pick(seed, 11, plus(plus(t, t), 1)));
-    is_in(c, from, plus(t, t)) & (c != but)
+    let both = t.wrapping_mul(2);
+    let from = t.wrapping_mul(pick(seed, 10, quotient(places, t)));
+    let but = from.wrapping_add(pick(seed, 11, both.wrapping_add(1)));
+    is_in(c, from, both) && c != but
 }
 
-// Whether a place is erased. Kinds: none; each with the same chance; two neighbouring sections but for one place; parity
-// places; a few; a run.
-fn is_erased(kind: usize, places: usize, t: usize, seed: u64, c: usize, parity: &Bytes) -> bool {
-    match kind {
-        0 => false,
-        1 => chance(seed, c, 64) < pick(seed, 10, 48),
-        2 => is_in_two(places, t, seed, c),
-        3 => (get8(parity, c) != 0) & (chance(seed, c, 8) != 0),
-        4 => chance(seed, c, places) < 4,
-        _ => is_in(c, pick(seed, 10, places), pick(seed, 11, plus(t, t))),
+// Which places are erased: none; each with the same chance; two neighbouring sections but for one place; parity places; a
+// few; a run.
+#[derive(Clone, Copy, PartialEq, Eq)]
+pub(crate) enum Erasure {
+    None,
+    Each,
+    Two,
+    Parity,
+    Few,
+    Run,
+}
+
+pub(crate) fn picked_erasure(seed: u64) -> Erasure {
+    match pick(seed, 24, 6) {
+        0 => Erasure::None,
+        1 => Erasure::Each,
+        2 => Erasure::Two,
+        3 => Erasure::Parity,
+        4 => Erasure::Few,
+        _ => Erasure::Run,
     }
 }
 
-fn mark(
-    kind: usize,
-    places: usize,
-    t: usize,
+fn is_erased(erasure: Erasure, plan: Plan, seed: u64, c: usize, parity: &[bool]) -> bool {
+    let places = least_of_places(plan);
+    let t = plan.t;
+    match erasure {
+        Erasure::None => false,
+        Erasure::Each => chance(seed, c, 64) < pick(seed, 10, 48),
+        Erasure::Two => is_in_two(places, t, seed, c),
+        Erasure::Parity => parity.get(c) == Some(&true) && chance(seed, c, 8) != 0,
+        Erasure::Few => chance(seed, c, places) < 4,
+        Erasure::Run => is_in(c, pick(seed, 10, places), pick(seed, 11, t.wrapping_mul(2))),
+    }
+}
+
+// The parity places, looked for only where they are to be erased.
+fn parities_for(alloc: Global, erasure: Erasure, plan: Plan) -> Result<Vec<bool>, AllocError> {
+    if erasure != Erasure::Parity {
+        return Ok(Vec::new(alloc));
+    }
+    messages::parities(alloc, plan)
+}
+
+pub(crate) fn marks(
+    alloc: Global,
+    plan: Plan,
+    erasure: Erasure,
     seed: u64,
-    c: usize,
-    parity: &Bytes,
-    marks: &mut Bytes,
-) {
-    if is_erased(kind, places, t, seed, c, parity) {
-        set_bit(marks, c);
-    }
-}
-
-fn mark_all(kind: usize, places: usize, t: usize, seed: u64, parity: &Bytes, marks: &mut Bytes) {
+) -> Result<Vec<u8>, AllocError> {
+    let places = least_of_places(plan);
+    let parity = parities_for(alloc, erasure, plan)?;
+    let mut marks = vec![in alloc; 0u8; refusing::mark_bytes(places)]?;
     for c in 0..places {
-        mark(kind, places, t, seed, c, parity, &mut *marks);
+        if is_erased(erasure, plan, seed, c, &parity) {
+            mark(&mut marks, c);
+        }
     }
-}
-
-// The parity places are looked for only where the kind asks for them.
-fn parities_for(kind: usize, plan: Plan, parity: &mut Bytes) {
-    if kind == 3 {
-        messages::parities(plan, parity);
-    }
-}
-
-pub(crate) fn marks(plan: Plan, kind: usize, seed: u64, marks: &mut Bytes) {
-    let mut parity = [0u8; 32784];
-    parities_for(kind, plan, &mut parity);
-    mark_all(kind, least_of_places(plan), plan.t, seed, &parity, marks);
+    Ok(marks)
 }
 
 // A spare bit, where there is one, or none.
-pub(crate) fn spoilt_marks(plan: Plan, seed: u64, marks: &mut Bytes) {
+pub(crate) fn spoil_marks(plan: Plan, seed: u64, marks: &mut [u8]) {
     let places = least_of_places(plan);
-    if (pick(seed, 12, 2) == 0) & (places % 8 != 0) {
-        set_bit(marks, plus(places, pick(seed, 13, 8 - places % 8)));
-    }
-}
-
-fn rub_one(marks: &Bytes, c: usize, seed: u64, block: &mut Bytes) {
-    if bit(marks, c) != 0 {
-        put8(block, c, low8(chance(seed, c, 256)));
+    if pick(seed, 12, 2) == 0 && places % 8 != 0 {
+        mark(marks, places.wrapping_add(pick(seed, 13, 8 - places % 8)));
     }
 }
 
 // Any symbols at the erased places.
-pub(crate) fn rub(plan: Plan, marks: &Bytes, seed: u64, block: &mut Bytes) {
-    let places = least_of_places(plan);
-    for c in 0..places {
-        rub_one(marks, c, seed, &mut *block);
+pub(crate) fn rub(marks: &[u8], seed: u64, block: &mut [u8]) {
+    for (c, symbol) in block.iter_mut().enumerate() {
+        if is_marked(marks, c) {
+            *symbol = low8(chance(seed, c, 256));
+        }
     }
 }
 
-// Another symbol at one place, where the block is not as it was sent.
-pub(crate) fn damage(plan: Plan, is_sent: bool, seed: u64, block: &mut Bytes) {
-    if is_sent {
-        return;
+// Another symbol at one place.
+pub(crate) fn damage(seed: u64, block: &mut [u8]) {
+    let c = pick(seed, 14, block.len());
+    if let Some(symbol) = block.get_mut(c) {
+        *symbol ^= low8(pick(seed, 15, 255).wrapping_add(1));
     }
-    let c = pick(seed, 14, least_of_places(plan));
-    let old = get8(&*block, c);
-    put8(block, c, old ^ low8(plus(1, pick(seed, 15, 255))));
 }

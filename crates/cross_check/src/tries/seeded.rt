@@ -1,124 +1,150 @@
 // A case of each kind for every seed.
-use crate::buffers::{Bytes, copy8};
-use crate::numbers::{minus, plus};
-use crate::random::{fill8, pick, seeded};
-use crate::tally::{Tally, note};
+use crate::random::{pick, seeded};
+use crate::tally::{Outcome, Tally};
+use crate::tries::given::{self, Erasure};
 use crate::tries::lent::Lens;
-use crate::tries::{fetches, given, jobs, lent, plans};
+use crate::tries::{fetches, jobs, lent, plans};
 use plan::Plan;
+use std::alloc::{AllocError, Global};
 
-// A codeword with erasures of a kind; damaged or not.
-pub(crate) fn recovery_of(plan: Plan, kind: usize, is_sent: bool, seed: u64) -> usize {
-    let mut sent = [0u8; 32784];
-    let mut block = [0u8; 32784];
-    let mut marks = [0u8; 32784];
-    let lens = given::lens(plan);
-    given::codeword(plan, seeded(seed, 20), &mut sent);
-    given::marks(plan, kind, seeded(seed, 21), &mut marks);
-    copy8(lens.block, &sent, &mut block);
-    given::damage(plan, is_sent, seeded(seed, 22), &mut block);
-    given::rub(plan, &marks, seeded(seed, 23), &mut block);
-    lent::recover(plan, lens, &block, &marks, is_sent, &sent, seed)
+// A codeword with erasures; damaged where it is not as it was sent.
+pub(crate) fn recovery_of(
+    alloc: Global,
+    plan: Plan,
+    erasure: Erasure,
+    is_sent: bool,
+    seed: u64,
+) -> Result<Outcome, AllocError> {
+    let lens = given::lens(alloc, plan)?;
+    let sent = given::codeword(alloc, plan, seeded(seed, 20))?;
+    let marks = given::marks(alloc, plan, erasure, seeded(seed, 21))?;
+    let mut block = sent.clone()?;
+    if !is_sent {
+        given::damage(seeded(seed, 22), &mut block);
+    }
+    given::rub(&marks, seeded(seed, 23), &mut block);
+    let sent = is_sent.then_some(sent.as_slice());
+    lent::recover(alloc, plan, &block, &marks, lens.list, sent, seed)
 }
 
-fn recovery(plan: Plan, seed: u64) -> usize {
-    recovery_of(plan, pick(seed, 24, 6), pick(seed, 25, 4) != 0, seed)
+fn recovery(alloc: Global, plan: Plan, seed: u64) -> Result<Outcome, AllocError> {
+    let is_sent = pick(seed, 25, 4) != 0;
+    recovery_of(alloc, plan, given::picked_erasure(seed), is_sent, seed)
 }
 
-fn marks_of(plan: Plan, seed: u64, marks: &mut Bytes) {
-    given::marks(plan, pick(seed, 24, 6), seeded(seed, 21), marks);
+fn marks_of(alloc: Global, plan: Plan, seed: u64) -> Result<Vec<u8>, AllocError> {
+    given::marks(alloc, plan, given::picked_erasure(seed), seeded(seed, 21))
 }
 
-fn erasure_count(plan: Plan, seed: u64) -> usize {
-    let mut marks = [0u8; 32784];
-    marks_of(plan, seed, &mut marks);
-    lent::count(plan, given::lens(plan), &marks)
+fn erasure_count(alloc: Global, plan: Plan, seed: u64) -> Result<Outcome, AllocError> {
+    let marks = marks_of(alloc, plan, seed)?;
+    Ok(lent::count(plan, &marks))
 }
 
-fn fetching(plan: Plan, seed: u64) -> usize {
-    let mut marks = [0u8; 32784];
-    let lens = given::lens(plan);
-    marks_of(plan, seed, &mut marks);
-    fetches::fetch(plan, lens, lens.marks, &marks, seed)
+fn fetching(alloc: Global, plan: Plan, seed: u64) -> Result<Outcome, AllocError> {
+    let marks = marks_of(alloc, plan, seed)?;
+    fetches::fetch(alloc, plan, &marks, marks.len(), seed)
 }
 
-// Any message and any block.
-fn carried(plan: Plan, lens: Lens, is_reading: bool, seed: u64) -> usize {
-    let mut message = [0u8; 32784];
-    let mut block = [0u8; 32784];
-    fill8(&mut message, lens.message, seeded(seed, 26));
-    fill8(&mut block, lens.block, seeded(seed, 27));
-    lent::carry(plan, lens, is_reading, &message, &block)
+// Any message.
+fn encode(alloc: Global, plan: Plan, lens: Lens, seed: u64) -> Result<Outcome, AllocError> {
+    let message = given::bytes(alloc, lens.message, seeded(seed, 26))?;
+    let block = given::bytes(alloc, lens.block, seeded(seed, 27))?;
+    lent::encode(alloc, plan, &message, &block)
 }
 
-pub(crate) fn encoding(plan: Plan, seed: u64) -> usize {
-    carried(plan, given::lens(plan), false, seed)
+// Any block.
+fn read(alloc: Global, plan: Plan, lens: Lens, seed: u64) -> Result<Outcome, AllocError> {
+    let message = given::bytes(alloc, lens.message, seeded(seed, 26))?;
+    let block = given::bytes(alloc, lens.block, seeded(seed, 27))?;
+    lent::read(alloc, plan, &block, &message)
 }
 
-pub(crate) fn reading(plan: Plan, is_sent: bool, seed: u64) -> usize {
-    let mut message = [0u8; 32784];
-    let mut block = [0u8; 32784];
-    let lens = given::lens(plan);
-    fill8(&mut message, lens.message, seeded(seed, 26));
-    given::codeword(plan, seeded(seed, 20), &mut block);
-    given::damage(plan, is_sent, seeded(seed, 22), &mut block);
-    lent::carry(plan, lens, true, &message, &block)
+pub(crate) fn encoding(alloc: Global, plan: Plan, seed: u64) -> Result<Outcome, AllocError> {
+    encode(alloc, plan, given::lens(alloc, plan)?, seed)
 }
 
-// The marks are those of a plan, with a fault of the spoilt one.
-fn faulty_recovery(plan: Plan, spoilt: Plan, lens: Lens, seed: u64) -> usize {
-    let mut block = [0u8; 32784];
-    let mut marks = [0u8; 32784];
-    fill8(&mut block, lens.block, seeded(seed, 27));
-    marks_of(plan, seed, &mut marks);
-    given::spoilt_marks(spoilt, seed, &mut marks);
-    lent::recover(spoilt, lens, &block, &marks, false, &block, seed)
+// A codeword; damaged where it is not as it was sent.
+pub(crate) fn reading(
+    alloc: Global,
+    plan: Plan,
+    is_sent: bool,
+    seed: u64,
+) -> Result<Outcome, AllocError> {
+    let lens = given::lens(alloc, plan)?;
+    let message = given::bytes(alloc, lens.message, seeded(seed, 26))?;
+    let mut block = given::codeword(alloc, plan, seeded(seed, 20))?;
+    if !is_sent {
+        given::damage(seeded(seed, 22), &mut block);
+    }
+    lent::read(alloc, plan, &block, &message)
 }
 
-fn faulty_count(plan: Plan, spoilt: Plan, lens: Lens, seed: u64) -> usize {
-    let mut marks = [0u8; 32784];
-    marks_of(plan, seed, &mut marks);
-    given::spoilt_marks(spoilt, seed, &mut marks);
-    lent::count(spoilt, lens, &marks)
+// The marks of a plan, so many bytes of them, with a fault of the spoilt one.
+fn faulty_marks(
+    alloc: Global,
+    plan: Plan,
+    spoilt: Plan,
+    bytes: usize,
+    seed: u64,
+) -> Result<Vec<u8>, AllocError> {
+    let mut marks = marks_of(alloc, plan, seed)?;
+    marks.resize(bytes, 0)?;
+    given::spoil_marks(spoilt, seed, &mut marks);
+    Ok(marks)
+}
+
+fn faulty_recovery(
+    alloc: Global,
+    plan: Plan,
+    spoilt: Plan,
+    lens: Lens,
+    seed: u64,
+) -> Result<Outcome, AllocError> {
+    let block = given::bytes(alloc, lens.block, seeded(seed, 27))?;
+    let marks = faulty_marks(alloc, plan, spoilt, lens.marks, seed)?;
+    lent::recover(alloc, spoilt, &block, &marks, lens.list, None, seed)
 }
 
 // The list has the marks' length as it should be, or a fault of its own.
-fn faulty_fetching(plan: Plan, seed: u64) -> usize {
-    let mut marks = [0u8; 32784];
+fn faulty_fetching(alloc: Global, plan: Plan, seed: u64) -> Result<Outcome, AllocError> {
     let spoilt = given::spoilt(plan, seed);
-    let right = given::lens(spoilt);
+    let right = given::lens(alloc, spoilt)?;
     let lens = given::spoilt_lens(right, seed);
-    marks_of(plan, seed, &mut marks);
-    given::spoilt_marks(spoilt, seed, &mut marks);
-    let long = minus(right.marks, (pick(seed, 37, 4) == 0) as usize);
-    fetches::fetch(spoilt, lens, long, &marks, seed)
+    let marks = faulty_marks(alloc, plan, spoilt, lens.marks, seed)?;
+    let is_short = pick(seed, 37, 4) == 0;
+    let bytes = right.marks.saturating_sub(usize::from(is_short));
+    fetches::fetch(alloc, spoilt, &marks, bytes, seed)
 }
 
 // A call with faults in the plan, the lengths or the marks; one in four has none.
-fn faulty(plan: Plan, seed: u64) -> usize {
+fn faulty(alloc: Global, plan: Plan, seed: u64) -> Result<Outcome, AllocError> {
     let spoilt = given::spoilt(plan, seed);
-    let lens = given::spoilt_lens(given::lens(spoilt), seed);
+    let lens = given::spoilt_lens(given::lens(alloc, spoilt)?, seed);
     match pick(seed, 28, 6) {
-        0 | 1 => faulty_recovery(plan, spoilt, lens, seed),
-        2 => faulty_count(plan, spoilt, lens, seed),
-        3 => carried(spoilt, lens, false, seed),
-        4 => carried(spoilt, lens, true, seed),
-        _ => plans::message_count(spoilt),
+        0 | 1 => faulty_recovery(alloc, plan, spoilt, lens, seed),
+        2 => {
+            let marks = faulty_marks(alloc, plan, spoilt, lens.marks, seed)?;
+            Ok(lent::count(spoilt, &marks))
+        }
+        3 => encode(alloc, spoilt, lens, seed),
+        4 => read(alloc, spoilt, lens, seed),
+        _ => plans::message_count(alloc, spoilt),
     }
 }
 
 // Plan::of with a length that is n, or not.
-fn making(plan: Plan, seed: u64) -> usize {
+fn making(alloc: Global, plan: Plan, seed: u64) -> Result<Outcome, AllocError> {
     let spoilt = given::spoilt(plan, seed);
     match pick(seed, 29, 4) {
-        0 => plans::of(spoilt, plan.n),
-        1 => plans::of(spoilt, minus(plan.n, 1)),
-        2 => plans::verdict(spoilt),
-        _ => plans::figures(spoilt),
+        0 => Ok(plans::of(spoilt, plan.n)),
+        1 => Ok(plans::of(spoilt, plan.n.saturating_sub(1))),
+        2 => Ok(plans::verdict(spoilt)),
+        _ => plans::figures(alloc, spoilt),
     }
 }
 
-fn family(seed: u64) -> usize {
+fn family(seed: u64) -> Outcome {
     let n = pick(seed, 30, 40);
     let t = pick(seed, 31, 80);
     match pick(seed, 32, 8) {
@@ -127,82 +153,71 @@ fn family(seed: u64) -> usize {
         2 => plans::straight(n, pick(seed, 33, 2100)),
         3 => plans::powers(n, t, pick(seed, 33, 65536)),
         4 => plans::powers(n, pick(seed, 34, 2100), pick(seed, 33, 4)),
-        _ => plans::powers(plus(2, pick(seed, 35, 8)), t, pick(seed, 33, 100)),
+        _ => plans::powers(pick(seed, 35, 8).wrapping_add(2), t, pick(seed, 33, 100)),
     }
 }
 
-fn one(kind: usize, most_n: usize, most_t: usize, seed: u64) -> usize {
-    let plan = given::plan(most_n, most_t, seed);
-    match kind {
-        0 => recovery(plan, seed),
-        1 => erasure_count(plan, seed),
-        2 => encoding(plan, seed),
-        3 => reading(plan, pick(seed, 25, 2) == 0, seed),
-        4 => plans::figures(plan),
-        5 => faulty(plan, seed),
-        6 => making(plan, seed),
-        7 => family(seed),
-        8 => jobs::out_of_bytes(pick(seed, 36, 2) == 0, seed),
-        9 => fetching(plan, seed),
-        _ => faulty_fetching(plan, seed),
-    }
-}
-
-// Cases of one kind, by rising seeds.
-fn many(kind: usize, most_n: usize, most_t: usize, cases: u64, tally: &mut Tally) {
-    for i in 0..cases {
-        note(
-            &mut *tally,
-            one(kind, most_n, most_t, seeded(i, kind as u64)),
-        );
-    }
-}
-
-// Cases of one kind: of plans of at most so many sections and symbols, and how many there are.
+// The numbers of the kinds are part of their seeds.
 #[derive(Clone, Copy)]
-struct Cases {
-    kind: usize,
-    most_n: usize,
-    most_t: usize,
-    count: u64,
+enum Kind {
+    Recovery,
+    Count,
+    Encoding,
+    Reading,
+    Figures,
+    Faults,
+    Plans,
+    Families,
+    Jobs,
+    Fetching,
+    FetchingFaults,
 }
 
-fn row(kind: usize, most_n: usize, most_t: usize, count: u64) -> Cases {
-    Cases {
-        kind,
-        most_n,
-        most_t,
-        count,
+fn one(alloc: Global, kind: Kind, plan: Plan, seed: u64) -> Result<Outcome, AllocError> {
+    match kind {
+        Kind::Recovery => recovery(alloc, plan, seed),
+        Kind::Count => erasure_count(alloc, plan, seed),
+        Kind::Encoding => encoding(alloc, plan, seed),
+        Kind::Reading => reading(alloc, plan, pick(seed, 25, 2) == 0, seed),
+        Kind::Figures => plans::figures(alloc, plan),
+        Kind::Faults => faulty(alloc, plan, seed),
+        Kind::Plans => making(alloc, plan, seed),
+        Kind::Families => Ok(family(seed)),
+        Kind::Jobs => jobs::out_of_bytes(alloc, pick(seed, 36, 2) == 0, seed),
+        Kind::Fetching => fetching(alloc, plan, seed),
+        Kind::FetchingFaults => faulty_fetching(alloc, plan, seed),
     }
 }
 
-// Kinds: 0 recovery, 1 count, 2 encoding, 3 reading, 4 figures, 5 faults, 6 plans, 7 families, 8 jobs out of bytes, 9 fetch lists, 10 their faults. Small plans,
-// refusals and larger plans.
-fn listed(i: usize) -> Cases {
-    match i {
-        0 => row(0, 5, 6, 3000),
-        1 => row(1, 6, 20, 500),
-        2 => row(2, 6, 20, 800),
-        3 => row(3, 6, 20, 1200),
-        4 => row(4, 3, 5, 400),
-        5 => row(5, 8, 12, 6000),
-        6 => row(6, 6, 9, 2000),
-        7 => row(7, 0, 0, 3000),
-        8 => row(0, 14, 64, 1500),
-        9 => row(0, 32, 300, 60),
-        10 => row(2, 16, 100, 100),
-        11 => row(3, 16, 100, 100),
-        12 => row(4, 12, 60, 300),
-        13 => row(8, 0, 0, 600),
-        14 => row(9, 6, 20, 1000),
-        15 => row(9, 32, 300, 60),
-        _ => row(10, 8, 12, 1200),
-    }
-}
+// The kind of the cases, the most sections and symbols of their plans, and how many cases there are: small plans, refusals
+// and larger plans.
+const CASES: [(Kind, usize, usize, u64); 17] = [
+    (Kind::Recovery, 5, 6, 3000),
+    (Kind::Count, 6, 20, 500),
+    (Kind::Encoding, 6, 20, 800),
+    (Kind::Reading, 6, 20, 1200),
+    (Kind::Figures, 3, 5, 400),
+    (Kind::Faults, 8, 12, 6000),
+    (Kind::Plans, 6, 9, 2000),
+    (Kind::Families, 0, 0, 3000),
+    (Kind::Recovery, 14, 64, 1500),
+    (Kind::Recovery, 32, 300, 60),
+    (Kind::Encoding, 16, 100, 100),
+    (Kind::Reading, 16, 100, 100),
+    (Kind::Figures, 12, 60, 300),
+    (Kind::Jobs, 0, 0, 600),
+    (Kind::Fetching, 6, 20, 1000),
+    (Kind::Fetching, 32, 300, 60),
+    (Kind::FetchingFaults, 8, 12, 1200),
+];
 
-pub(crate) fn all(tally: &mut Tally) {
-    for i in 0..17 {
-        let next = listed(i);
-        many(next.kind, next.most_n, next.most_t, next.count, &mut *tally);
+pub(crate) fn all(alloc: Global, tally: &mut Tally) -> Result<(), AllocError> {
+    for (kind, most_n, most_t, count) in CASES {
+        for i in 0..count {
+            let seed = seeded(i, kind as u64);
+            let plan = given::plan(most_n, most_t, seed);
+            tally.note(one(alloc, kind, plan, seed)?);
+        }
     }
+    Ok(())
 }

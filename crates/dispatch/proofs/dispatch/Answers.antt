@@ -1,14 +1,12 @@
 -- Each command by its own function.
-use mathlib.Core.Path.{sym, ◌∙◌}
+use mathlib.Core.Path.{refl, sym, ◌∙◌}
 use mathlib.Core.Bool.{true≢false}
 use Rattle.state.proofs.Tags.{tag_makes}
-use Rattle.act.specs.Acts.{state_of}
-use Rattle.act.proofs.StateLaws.{recover_planned, seal_planned, figures_planned, fetch_planned}
 use Rattle.dispatch.specs.DispatchLaws.{refusal_is, shift_any, quiet_acts, told_acts}
 use Rattle.dispatch.proofs.dispatch.Goals as goal
 
 pub set_shift-requires : goal.set_shift-requires
-set_shift-requires c = (λ v m. shift_any _ _ _ v m _ _ (refusal_is _ c.in-SetShift.is c.requires.2), c.requires.0.good)
+set_shift-requires c = (λ v m. shift_any _ _ _ v m _ _ (refusal_is _ c.in-SetShift.is c.requires.2), c.requires.0.good refl)
 
 pub set_symbol-requires : goal.set_symbol-requires
 set_symbol-requires c = (c.requires.0, refusal_is _ c.in-SetSymbol.is c.requires.2)
@@ -19,24 +17,14 @@ mark_one-requires c = (_, (c.requires.0, refusal_is _ c.in-MarkOne.is c.requires
 pub mark_run-requires : goal.mark_run-requires
 mark_run-requires c = (_, (c.requires.0, refusal_is _ c.in-MarkRun.is c.requires.2))
 
-pub recover_state-requires : goal.recover_state-requires
-unfolding state_of
-recover_state-requires c = (c.requires.0, c.requires.1, recover_planned _ (refusal_is _ c.in-Recover.is c.requires.2))
-
-pub seal_state-requires : goal.seal_state-requires
-unfolding state_of
-seal_state-requires c = (c.requires.0, c.requires.1, seal_planned _ (refusal_is _ c.in-Seal.is c.requires.2))
-
 pub show-requires : goal.show-requires
 show-requires c = (c.requires.1, (_, (c.requires.0, refusal_is _ c.in-Show.is c.requires.2)))
 
 pub tell_figures-requires : goal.tell_figures-requires
-unfolding state_of
-tell_figures-requires c = (c.requires.1, c.requires.0.good (figures_planned _ (refusal_is _ c.in-Figures.is c.requires.2)))
+tell_figures-requires c = (c.requires.1, c.requires.0.good refl)
 
 pub fetch_state-requires : goal.fetch_state-requires
-unfolding state_of
-fetch_state-requires c = let p = c.requires in (p.1, fetch_planned _ (refusal_is _ c.in-Fetch.is p.2), (_, p.0))
+fetch_state-requires c = (c.requires.1, (_, c.requires.0))
 
 pub returns-in-SetShift : goal.returns-in-SetShift
 returns-in-SetShift c = quiet_acts _ c.in-SetShift.is (c.set_shift.ensures _ _ c.requires.0)

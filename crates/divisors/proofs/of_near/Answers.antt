@@ -1,9 +1,10 @@
 -- `divisors::of_near` meets its contract. Assumes nothing.
-use Rattle.divisors.specs.DivisorsLaws.{near_none, near_one}
+use native.Mathlib.Omega.{arith}
+use Rattle.divisors.specs.DivisorsLaws.{near_one, neighbour_below}
 use Rattle.divisors.proofs.of_near.Goals as goal
 
-pub returns-then-n-k : goal.returns-then-n-k
-returns-then-n-k c = near_none _ c.neighbour_of-k.ensures c.if-n-k.true
+pub share-requires : goal.share-requires
+share-requires c = let k = neighbour_below c.in-Some.ensures in (omega arith, omega arith)
 
-pub returns : goal.returns
-returns c = near_one _ c.neighbour_of-k.ensures c.if-n-k.false c.share.ensures
+pub returns-in-Some : goal.returns-in-Some
+returns-in-Some c = near_one _ c.in-Some.ensures c.share.ensures

@@ -1,10 +1,6 @@
 -- `divisors::of_row` meets its contract. The loop's invariant: g is the greatest over the sections below j. Assumes nothing.
-use Prim.Native.Nat.{◌-◌, ◌≤◌}
 use Rattle.divisors.specs.Divisors.{Most, Row}
 use Rattle.divisors.proofs.of_row.Given as goal
 
 abbrev pub invariant-loop-j : goal.invariant-loop-j
-invariant-loop-j l = (l.j ≤ l.i) × Most l.t l.s (Row l.i l.j) l.g
-
-abbrev pub decreases-loop-j : goal.decreases-loop-j
-decreases-loop-j l = l.i - l.j
+invariant-loop-j l = Most l.t l.s (Row l.i l.j) l.g

@@ -1,6 +1,8 @@
 -- `divisors::share` meets its contract. Assumes nothing.
+use Rattle.math.specs.Gcd.{gap}
 use Rattle.divisors.specs.DivisorsLaws.{share_is}
 use Rattle.divisors.proofs.share.Goals as goal
 
 pub returns : goal.returns
-returns c = share_is _ _ _ _ c.wide.ensures c.wide-2.ensures c.gap.ensures c.gcd.ensures
+unfolding gap
+returns c = share_is _ _ _ _ c.from.ensures c.from-2.ensures c.abs_diff.ensures c.gcd.ensures

@@ -9,8 +9,8 @@ crossed-requires c = labels_lent c.requires.lent c.labels-closing.ensures c.requ
 pub loose-requires : goal.loose-requires
 loose-requires c = let room = c.requires.room.0 in record { lent = c.requires.lent; closed = c.labels-closing.ensures.closed; room = (record { sum_long = room.sum_long; tally_long = room.tally_long; place_long = c.labels-closing.auto.parent ∙ room.place_long; value_long = c.crossed.auto.total ∙ room.value_long }, c.crossed.auto.witness ∙ c.requires.room.1) }
 
-pub returns-in-Crossed : goal.returns-in-Crossed
-returns-in-Crossed c = labels_crossed c.requires.lent c.labels-closing.ensures c.crossed.ensures c.in-Crossed.is
+pub returns-in-Some : goal.returns-in-Some
+returns-in-Some c = labels_crossed c.requires.lent c.labels-closing.ensures c.crossed.ensures c.in-Some.is
 
-pub returns-in-Balanced : goal.returns-in-Balanced
-returns-in-Balanced c = labels_loose c.requires.lent c.labels-closing.ensures c.crossed.ensures c.in-Balanced.is c.loose.ensures
+pub returns-in-None : goal.returns-in-None
+returns-in-None c = labels_loose c.requires.lent c.labels-closing.ensures c.crossed.ensures c.in-None.is c.loose.ensures

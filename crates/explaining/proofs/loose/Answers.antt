@@ -9,4 +9,4 @@ pub returns : goal.returns
 returns c = loosens_shown c.requires.lent c.show.ensures
 
 pub show-requires-clause-closing : goal.show-requires-clause-closing
-show-requires-clause-closing c = closed_at c.requires.lent c.in-At.is c.requires.closed
+show-requires-clause-closing c = closed_at c.requires.lent c.in-Some.is c.requires.closed

@@ -2,7 +2,7 @@
 use mathlib.Core.Path.{◌∙◌, ap}
 use lib.Dec.{eqb}
 use lib.ListN.{length}
-use Rattle.refusals.specs.declared.Check.{Check}
+use Rattle.refusals.specs.Refusals.{Check}
 use Rattle.calls.specs.Calls.{also_lent}
 use Rattle.calls.proofs.CallsLaws.{as_marks}
 use Rattle.fetch.proofs.tested.Goals as goal

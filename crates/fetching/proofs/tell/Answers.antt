@@ -16,11 +16,11 @@ unfolding mark_bytes layout_of layout
 fetch_line-requires c =
     let p = c.requires in
     let most = places_most _ p.0.good in
-    let few = told_few p.0 _ p.1 c.fetch-answer.ensures c.count-count.ensures in
+    let few = told_few p.0 _ p.1 c.fetch-answer.ensures c.unwrap_or-count.ensures in
     (p.2, omega (arith, p.0.long, p.1, c.fetch-answer.auto.list), most, omega (arith, few, most))
 
 pub returns : goal.returns
 returns c =
     let p = c.requires in
     let e = wrote_at c.fetch_line.ensures in
-    (told_listed p.0 _ p.1 c.fetch-answer.ensures c.count-count.ensures e.text_stands, wrote_front e)
+    (told_listed p.0 _ p.1 c.fetch-answer.ensures c.unwrap_or-count.ensures e.text_stands, wrote_front e)

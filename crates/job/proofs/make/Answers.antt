@@ -1,5 +1,6 @@
 -- The plan is refused, or begun. Assumes nothing.
-use mathlib.Core.Path.{refl, sym, ◌∙◌}
+use mathlib.Core.Path.{refl, sym, ap, ◌∙◌}
+use Rattle.refusals.specs.Refusals.{test_of}
 use Rattle.refusals.proofs.RefusalLaws.{pass_not_stop}
 use Rattle.lines.proofs.LinesLaws.{wrote_none}
 use Rattle.act.proofs.ActLaws.{made_acts}
@@ -7,14 +8,14 @@ use Rattle.turns.proofs.TurnLaws.{on_refused, on_acts}
 use Rattle.job.proofs.make.Goals as goal
 
 pub begin-requires : goal.begin-requires
-begin-requires c = (c.made-made.ensures.good c.in-Pass.is, c.requires.0.block_long, c.requires.0.marks_long)
+begin-requires c = (c.made.ensures.good _ c.in-Ok.is, c.requires.0.block_long, c.requires.0.marks_long)
 
 pub shape_of-line : goal.shape_of-line
 shape_of-line c = c.stop.auto.line
 
-pub returns-in-Stop : goal.returns-in-Stop
-returns-in-Stop c =
-    λ b last p e. on_refused _ p (sym c.in-Stop.is ∙ sym (c.made-made.ensures.refusal _)) (λ q. pass_not_stop _ (sym q)) c.stop.ensures.1
+pub returns-in-Err : goal.returns-in-Err
+returns-in-Err c =
+    λ b last p e. on_refused _ p (sym (ap test_of c.in-Err.is) ∙ sym (c.made.ensures.refusal _)) (λ q. pass_not_stop _ (sym q)) c.stop.ensures.1
     (record { held = c.stop.ensures.0; block = refl; marks = refl })
 
 pub shape_of-block : goal.shape_of-block
@@ -23,7 +24,7 @@ shape_of-block c = c.begin.auto.block
 pub shape_of-marks : goal.shape_of-marks
 shape_of-marks c = c.begin.auto.marks
 
-pub returns-in-Pass : goal.returns-in-Pass
-returns-in-Pass c =
-    λ b last p e. on_acts _ _ p e (c.made-made.ensures.refusal _ ∙ c.in-Pass.is)
-    (record { count = 0; on = refl; used = refl; length = refl; text = _; wrote = wrote_none _; acts = made_acts c.made-made.ensures _ c.begin.ensures })
+pub returns-in-Ok : goal.returns-in-Ok
+returns-in-Ok c =
+    λ b last p e. on_acts _ _ p e (c.made.ensures.refusal _ ∙ ap test_of c.in-Ok.is)
+    (record { count = 0; on = refl; used = refl; length = refl; text = _; wrote = wrote_none _; acts = made_acts c.made.ensures _ (rw c.in-Ok.is c.begin.ensures) })

@@ -2,10 +2,10 @@
 use Rattle.numbers.specs.EntryLaws.{figures_done, figures_refused}
 use Rattle.numbers.proofs.number_figures.Goals as goal
 
-pub returns-in-Are : goal.returns-in-Are
-returns-in-Are c = figures_done _ _ (rw c.in-Are.is at c.figures.ensures)
+pub returns-in-Ok : goal.returns-in-Ok
+returns-in-Ok c = figures_done _ _ (rw c.in-Ok.is at c.figures.ensures)
 
-pub returns-in-Not : goal.returns-in-Not
-returns-in-Not c =
+pub returns-in-Err : goal.returns-in-Err
+returns-in-Err c =
     rw c.number.ensures
-    (figures_refused _ _ (rw c.in-Not.is at c.figures.ensures))
+    (figures_refused _ _ (rw c.in-Err.is at c.figures.ensures))

@@ -4,4 +4,4 @@ use Rattle.numbers.proofs.number_made.Goals as goal
 
 pub returns : goal.returns
 unfolding numbered
-returns c = rw c.number.ensures
+returns c = rw (c.number.ensures, c.unwrap_or.ensures, c.none.ensures)

@@ -1,6 +1,5 @@
 -- Section by section the places from the run on are noted. The invariant: the parity places below section j are counted, and a section is reached there.
-use mathlib.Core.Path.{◌≡◌}
-use Prim.Native.Nat.{◌-◌, ◌*◌, ◌≤◌}
+use Prim.Native.Nat.{◌*◌}
 use Rattle.plan.specs.Layout.{layout}
 use Rattle.code.specs.Laws.ParityCount.{parities}
 use Rattle.tables.specs.Spots.{Reached}
@@ -9,8 +8,5 @@ use Rattle.parities.proofs.count_parities.Given as goal
 
 abbrev pub invariant-loop-j : goal.invariant-loop-j
 invariant-loop-j l =
-    (l.j ≤ l.n) × (l.end ≡ l.j * l.t) × Reached l.n l.t l.shifts (l.j * l.t) l.at.index l.at.begin l.at.end l.at.shift
+    Reached l.n l.t l.shifts (l.j * l.t) l.at.index l.at.begin l.at.end l.at.shift
     × Seen l.n l.t l.shifts (parities (layout l.n l.t l.shifts)) (l.j * l.t) l.tally
-
-abbrev pub decreases-loop-j : goal.decreases-loop-j
-decreases-loop-j l = l.n - l.j

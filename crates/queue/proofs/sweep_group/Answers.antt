@@ -5,12 +5,3 @@ use Rattle.queue.proofs.sweep_group.Goals as goal
 
 pub returns-then-no_ones : goal.returns-then-no_ones
 returns-then-no_ones c = sweep_none c.requires (sym c.no_ones.ensures ∙ c.if-no_ones.true)
-
-pub sweep-requires : goal.sweep-requires
-sweep-requires c = c.requires
-
-pub shape_of-queue : goal.shape_of-queue
-shape_of-queue c = c.sweep.auto.queue
-
-pub returns : goal.returns
-returns c = c.sweep.ensures

@@ -7,11 +7,11 @@ use Rattle.recovery.proofs.recover.Goals as goal
 
 pub decide-requires : goal.decide-requires
 unfolding recover_lent
-decide-requires c = call_given _ _ _ _ (sym c.check_call.ensures ∙ c.in-Pass.is)
+decide-requires c = call_given _ _ _ _ (sym c.check_call.ensures ∙ c.in-Ok.is)
 
-pub returns-in-Stop : goal.returns-in-Stop
+pub returns-in-Err : goal.returns-in-Err
 unfolding recover_lent
-returns-in-Stop c = recovers_refused _ _ _ _ (sym c.check_call.ensures ∙ c.in-Stop.is)
+returns-in-Err c = recovers_refused _ _ _ _ (sym c.check_call.ensures ∙ c.in-Err.is)
 
 pub shape_of-block : goal.shape_of-block
 shape_of-block c = c.decide.auto.block
@@ -19,6 +19,6 @@ shape_of-block c = c.decide.auto.block
 pub shape_of-witness : goal.shape_of-witness
 shape_of-witness c = c.decide.auto.witness
 
-pub returns-in-Pass : goal.returns-in-Pass
+pub returns-in-Ok : goal.returns-in-Ok
 unfolding recover_lent
-returns-in-Pass c = call_decided _ _ _ _ (sym c.check_call.ensures ∙ c.in-Pass.is) c.decide.ensures
+returns-in-Ok c = call_decided _ _ _ _ (sym c.check_call.ensures ∙ c.in-Ok.is) c.decide.ensures

@@ -25,9 +25,6 @@ enter-longer-requires c = turn_room c.requires.ready c.requires.i_lt_tail c.row_
 pub overflow_sub-result : goal.overflow_sub-result
 overflow_sub-result c = omega (arith, turn_some c.requires.ready c.requires.i_lt_tail c.row_at-row.ensures c.settle-s.ensures.takes)
 
-pub shape_of-queue : goal.shape_of-queue
-shape_of-queue c = c.enter-longer.auto.queue
-
 pub returns : goal.returns
 unfolding counts
 returns c = turned c.requires.ready c.requires.i_lt_tail c.row_at-row.ensures c.settle-s.ensures.takes c.if-tally-r-ne1.false c.settle-s.ensures.rest_value c.enter-longer.ensures c.enter-longer.auto.queue

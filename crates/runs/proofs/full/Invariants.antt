@@ -1,10 +1,6 @@
 -- `full` meets its contract. The loop's invariant: the sections passed are full. Assumes nothing.
-use Prim.Native.Nat.{◌-◌}
 use Rattle.runs.specs.Runs.{Full}
 use Rattle.runs.proofs.full.Given as goal
 
 abbrev pub invariant-loop-j : goal.invariant-loop-j
 invariant-loop-j l = Full l.n l.t l.runs l.j
-
-abbrev pub decreases-loop-j : goal.decreases-loop-j
-decreases-loop-j l = l.n - l.j

@@ -1,62 +1,36 @@
-use mathlib.Core.Path.{◌≡◌, refl, sym, ◌∙◌, ap}
-use Prim.Native.Nat.{ℕ, ◌+◌, ◌-◌, ◌≤◌}
+use mathlib.Core.Path.{refl, ap}
+use Prim.Native.Nat.{ℕ, ◌+◌, ◌*◌}
 use native.Mathlib.Omega.{arith}
-use lib.ListN.{length, length-take, length-drop}
-use Rattle.runs.specs.Laws.Copying.{full_room, gathering_full, gathering_long, gathering_room, gathering_more, gathering_end, whole_message}
+use lib.ListN.{length-take}
+use Rattle.runs.specs.Laws.Copying.{full_room, gathering_full, gathering_room, gathering_more, gathering_end}
 use Rattle.runs.proofs.gather.Goals as goal
 
-pub full-j-requires : goal.full-j-requires
-full-j-requires c = c.requires.of.long
+pub slice_bounds-copy_from_slice-end : goal.slice_bounds-copy_from_slice-end
+slice_bounds-copy_from_slice-end c = let r = full_room c.requires c.full-whole.ensures in omega arith
 
-pub overflow_mul-from : goal.overflow_mul-from
-overflow_mul-from c = let r = full_room c.requires c.full-j.ensures in omega arith
+pub slice_bounds-copy_from_slice-end-2 : goal.slice_bounds-copy_from_slice-end-2
+slice_bounds-copy_from_slice-end-2 c = let r = full_room c.requires c.full-whole.ensures in omega (arith, length-take {A = ℕ})
 
-pub slice_bounds-copy_bytes-end : goal.slice_bounds-copy_bytes-end
-slice_bounds-copy_bytes-end c = let r = full_room c.requires c.full-j.ensures in omega arith
-
-pub slice_bounds-copy_bytes-end-2 : goal.slice_bounds-copy_bytes-end-2
-slice_bounds-copy_bytes-end-2 c = let r = full_room c.requires c.full-j.ensures in omega arith
-
-pub copy_bytes-requires : goal.copy_bytes-requires
-copy_bytes-requires c = let r = full_room c.requires c.full-j.ensures in simp (length-take, length-drop) (omega arith)
+pub copy_from_slice-requires : goal.copy_from_slice-requires
+copy_from_slice-requires c = let r = full_room c.requires c.full-whole.ensures in simp length-take (omega arith)
 
 pub loop-j-init : goal.loop-j-init
-loop-j-init c = gathering_full c.requires c.full-j.ensures refl c.copy_bytes.ensures refl
+loop-j-init c = gathering_full c.full-whole.ensures c.copy_from_slice.ensures.after refl
 
-pub bounds-runs-j : goal.bounds-runs-j
-bounds-runs-j c = omega (arith, c.loop-j.invariant.0.of.long)
+pub overflow_add-next : goal.overflow_add-next
+overflow_add-next c = let g = gathering_room c.requires c.loop-j.invariant c.loop-j-test.true in omega arith
+
+pub slice_bounds-copy_from_slice-end-in-loop-j : goal.slice_bounds-copy_from_slice-end-in-loop-j
+slice_bounds-copy_from_slice-end-in-loop-j c = let g = gathering_room c.requires c.loop-j.invariant c.loop-j-test.true in omega arith
+
+pub slice_bounds-copy_from_slice-end-in-loop-j-2 : goal.slice_bounds-copy_from_slice-end-in-loop-j-2
+slice_bounds-copy_from_slice-end-in-loop-j-2 c = let g = gathering_room c.requires c.loop-j.invariant c.loop-j-test.true in omega arith
 
 pub loop-j-preserved : goal.loop-j-preserved
 loop-j-preserved c =
-    let run = c.wide-run.ensures in
-    (c.loop-j.invariant.0, gathering_more c.loop-j.invariant.0 c.loop-j.invariant.1 c.loop-j-test.true (ap (λ (x : ℕ). c.loop-j.from + x) run) (ap (λ (x : ℕ). c.loop-j.done + x) run) c.copy_bytes-in-loop-j.ensures refl)
-
-pub shape_of-message : goal.shape_of-message
-shape_of-message c = gathering_long c.loop-j.invariant.0 c.loop-j.invariant.1 ∙ whole_message c.loop-j.invariant.0 ∙ sym (whole_message c.requires)
+    let run = c.from-run.ensures in
+    gathering_more c.requires c.loop-j.invariant c.loop-j-test.true (ap (λ (x : ℕ). c.loop-j.j * c.args.t + x) run)
+    (ap (λ (x : ℕ). c.loop-j.done + x) run) c.copy_from_slice-in-loop-j.ensures.after refl
 
 pub returns : goal.returns
-returns c = gathering_end c.loop-j.invariant.0 c.loop-j.invariant.1 c.loop-j-test.false
-
-pub overflow_add-next : goal.overflow_add-next
-overflow_add-next c =
-    let i = c.loop-j.invariant in
-    let g = gathering_room i.0 i.1 c.loop-j-test.true in
-    let e = c.wide-run.ensures in
-    let l : length c.loop-j.message ≡ length c.args.message.now = gathering_long i.0 i.1 ∙ whole_message i.0 ∙ sym (whole_message c.requires) in
-    omega arith
-
-pub slice_bounds-copy_bytes-end-in-loop-j : goal.slice_bounds-copy_bytes-end-in-loop-j
-slice_bounds-copy_bytes-end-in-loop-j c =
-    let i = c.loop-j.invariant in
-    let g = gathering_room i.0 i.1 c.loop-j-test.true in
-    let e = c.wide-run.ensures in
-    let l : length c.loop-j.message ≡ length c.args.message.now = gathering_long i.0 i.1 ∙ whole_message i.0 ∙ sym (whole_message c.requires) in
-    omega arith
-
-pub slice_bounds-copy_bytes-end-in-loop-j-2 : goal.slice_bounds-copy_bytes-end-in-loop-j-2
-slice_bounds-copy_bytes-end-in-loop-j-2 c =
-    let i = c.loop-j.invariant in
-    let g = gathering_room i.0 i.1 c.loop-j-test.true in
-    let e = c.wide-run.ensures in
-    let l : length c.loop-j.message ≡ length c.args.message.now = gathering_long i.0 i.1 ∙ whole_message i.0 ∙ sym (whole_message c.requires) in
-    omega arith
+returns c = gathering_end c.requires c.loop-j.invariant c.loop-j-test.false

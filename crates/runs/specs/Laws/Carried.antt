@@ -1,16 +1,14 @@
 -- A block that holds a message at its message places: what a codeword carries, and how many symbols that is.
 -- Main results: carries_of, carries_agreeing, plan_count.
-use Rattle.std.specs.Prelude.{◌≡◌, refl, List, [], ◌∷◌, map, ℕ, length, get_or}
+use Rattle.std.specs.Prelude.{◌≡◌, refl, List, [], ◌∷◌, map, ℕ, length, get_or, Ok}
 use Rattle.std.proofs.Common.{sym, ◌∙◌, ap₂, arith}
 use mathlib.Core.List.Memᴰ.{head as first}
 use mathlib.Core.List.Memᴰ.{tail as later}
-use Rattle.refusals.specs.declared.Check.TheVariants.{Pass}
 use Rattle.math.specs.Members.{◌∈◌}
 use Rattle.plan.specs.Layout.{Layout, Valid, layout, message_count}
 use Rattle.plan.specs.Plans.{layout_of, plan_check}
 use Rattle.plan.proofs.PlanLaws.{good_bounds, good_valid}
 use Rattle.plan.specs.declared.Plan.{Plan}
-use Rattle.plan.specs.GoodPlan.{GoodPlan, plan_valid}
 use Rattle.code.specs.Codewords.{Codeword, Agrees}
 use Rattle.code.specs.Messages.{Carries}
 use Rattle.code.proofs.Laws.Basics.{places_∈}
@@ -35,6 +33,6 @@ module _ {L : Layout} (ok : Valid L) where
       h.unmarked c (places_∈ L q.inside).0 (λ p. (((parity_lists L ok).exact c).0 p).lowest_of_none q.lowest_of_some))
       ∙ e)
 
-pub plan_count : (p : Plan) → plan_check p ≡ Pass → length (messages (layout_of p)) ≡ message_count (layout_of p)
+pub plan_count : (p : Plan) → plan_check p ≡ Ok tt → length (messages (layout_of p)) ≡ message_count (layout_of p)
 unfolding layout_of layout
 plan_count p h = count_messages (layout_of p) (good_valid p h) refl (omega (arith, (good_bounds p h).n_min))

@@ -6,7 +6,6 @@ use Rattle.std.proofs.Common.{◌∙◌, suc-mul, zero-mul, mul-le-mul_right, di
 use Rattle.std.proofs.Math.Logic.{by_cases}
 use mathlib.Core.List.{List, ◌++◌, map, append_assoc, append-nil}
 use Prim.Native.Nat.{ℕ, zero, suc, ◌+◌, ◌-◌, ◌*◌, ◌/◌, ◌%◌, ◌≤◌, ◌<◌}
-use Rattle.std.proofs.Math.Nat.{sub-zero}
 use Rattle.std.proofs.Math.Decide.{ℕ_discrete}
 use native.Mathlib.Omega.{arith}
 use Rattle.std.proofs.Math.ListN.{length, get_or, take, drop, replicate, length-append, length-drop, get_or-append}
@@ -27,15 +26,6 @@ section_start : (t : ℕ) {j n : ℕ} → j < n → j * t + t ≤ n * t
 section_start t h = omega (arith, mul-le-mul_right t h)
 
 -- ---- full sections
-
-pub full_none : (n t : ℕ) (runs : List ℕ) → Full n t runs 0
-full_none n t runs = record { most = omega arith; whole = λ i h. absurd (omega arith) }
-
-pub full_more : {n t : ℕ} {runs : List ℕ} {j : ℕ} → Full n t runs j → j < n → get_or runs j 0 ≡ t → Full n t runs (j + 1)
-full_more {j = j} F h e = record {
-  most = omega arith;
-  whole = λ i l. by_cases (ℕ_discrete i j) (λ q. rw q e) (λ q. F.whole i (omega arith));
-}
 
 total_full : (t : ℕ) (runs : List ℕ) (k : ℕ) → ((i : ℕ) → i < k → get_or runs i 0 ≡ t) → total runs k ≡ k * t
 unfolding total
@@ -59,13 +49,6 @@ filled_full t runs message (suc k) h =
     (ap₂ (λ y w. take y (drop w message) ++ replicate (t - y) 0) r (total_full t runs k (λ i l. h i (omega arith)))
     ∙ ap (λ y. take t (drop (k * t) message) ++ replicate y 0) z ∙ append-nil (take t (drop (k * t) message)))
     ∙ sym (take-add (k * t) t message) ∙ ap (λ y. take y message) (sym (suc-mul k t))
-
--- a copy into the first e places
-front_copied : (x l₀ l : List ℕ) (e : ℕ) → length x ≡ e → e ≤ length l₀ → l ≡ take 0 l₀ ++ (x ++ drop (e - 0) (drop 0 l₀)) → (l ≡ x ++ drop e l) × (length l ≡ length l₀)
-front_copied x l₀ l e lx h hl =
-    let q : l ≡ x ++ drop e l₀ = hl ∙ ap (λ y. x ++ drop y l₀) (sub-zero e) in
-    let d : drop e l ≡ drop e l₀ = ap (drop e) q ∙ drop_at x (drop e l₀) e lx in
-    (q ∙ ap (λ y. x ++ y) (sym d), ap length q ∙ simp (length-append, length-drop) (omega arith))
 
 -- the full sections lie within
 pub full_room : {n t : ℕ} {runs block message : List ℕ} {k : ℕ} → Lent n t runs block message → Full n t runs k
@@ -100,23 +83,17 @@ module _ {n t : ℕ} {L : Layout} {runs : List ℕ} (h : RunsOf n t L runs) wher
   room : {j : ℕ} → j < n → total runs j + get_or runs j 0 ≤ message_count L
   room l = rw (← total_count h) (total_within runs l)
 
-module _ {n t : ℕ} {runs block m₀ : List ℕ} (h : Lent n t runs block m₀) where
-  -- the full sections copied at once
-  pub gathering_full : {k e : ℕ} {x m : List ℕ} → Full n t runs k → e ≡ k * t → x ≡ take (e - 0) (drop 0 block)
-      → m ≡ take 0 m₀ ++ (x ++ drop (e - 0) (drop 0 m₀)) → Lent n t runs block m × Gathering n t runs block m e e k m
-  gathering_full {k} {e} {x} {m} F he hx hm =
-      let r = full_room h F in
-      let q : x ≡ take e block = hx ∙ ap (λ y. take y block) (sub-zero e) in
-      let c = front_copied x m₀ m e (ap length q ∙ length-take-le e block (omega arith)) (omega arith) hm in (
-        record { L = h.L; of = h.of; block_long = h.block_long; message_long = c.1 ∙ h.message_long },
-        record {
-          low = F.most;
-          at_is = he;
-          done_is = he ∙ sym (total_full t runs k F.whole);
-          symbols = c.0 ∙ ap (λ y. y ++ drop e m) (q ∙ ap (λ y. take y block) he ∙ sym (fronts_full t runs block k F.whole));
-        },
-      )
+-- the full sections copied at once
+pub gathering_full : {n t : ℕ} {runs block m₀ x m : List ℕ} {k : ℕ} → Full n t runs k → x ≡ take (k * t) block → m ≡ x ++ drop (k * t) m₀
+    → Gathering n t runs block m₀ (k * t) (k * t) k m
+gathering_full {t = t} {runs} {block} {m₀} {k = k} F hx hm = record {
+  low = F.most;
+  at_is = refl;
+  done_is = sym (total_full t runs k F.whole);
+  symbols = hm ∙ ap (λ y. y ++ drop (k * t) m₀) (hx ∙ sym (fronts_full t runs block k F.whole));
+}
 
+module _ {n t : ℕ} {runs block m₀ : List ℕ} (h : Lent n t runs block m₀) where
   pub gathering_long : {a done j : ℕ} {m : List ℕ} → Gathering n t runs block m₀ a done j m → length m ≡ length m₀
   gathering_long {a} {done} {j} g =
       let e = length_fronts h.of block h.block_long j g.low in
@@ -133,13 +110,13 @@ module _ {n t : ℕ} {runs block m₀ : List ℕ} (h : Lent n t runs block m₀)
 
   pub gathering_more : {a done j e next : ℕ} {m x m' : List ℕ} → Gathering n t runs block m₀ a done j m → j < n
       → e ≡ a + get_or runs j 0 → next ≡ done + get_or runs j 0 → x ≡ take (e - a) (drop a block) → m' ≡ take done m ++ (x ++ drop (next - done) (drop done m))
-      → Gathering n t runs block m₀ (a + t) next (j + 1) m'
+      → Gathering n t runs block m₀ ((j + 1) * t) next (j + 1) m'
   gathering_more {a} {done} {j} {e} {next} {m} {x} g l he hn hx hm =
       let k : e - a ≡ get_or runs j 0 = omega arith in
       let hx' : x ≡ take (get_or runs j 0) (drop (j * t) block) = hx ∙ ap₂ (λ y z. take y (drop z block)) k g.at_is in
       record {
         low = omega arith;
-        at_is = omega (arith, g.at_is);
+        at_is = refl;
         done_is = hn ∙ ap (λ y. y + get_or runs j 0) g.done_is ∙ sym (total_more runs j) ∙ ap (total runs) (sym (add-one j));
         symbols = hm
             ∙ part_write (fronts t runs block j) x m₀ {a = done} {e = next} {w = m} g.symbols
@@ -211,24 +188,19 @@ module _ {n t : ℕ} {L : Layout} {runs : List ℕ} (h : RunsOf n t L runs) (mes
       (λ q. let o' : c / t < j = omega arith in
       get_or-append f (x ++ z) 0 c (omega (arith, (div-lt_iff_lt-mul {x = c} {y = j} (runs_positive h)).0 o')) ∙ filled_blank j c (omega arith) o' o)
 
+-- the full sections filled at once
+pub filling_full : {n t : ℕ} {runs message b₀ x b : List ℕ} {k : ℕ} → Full n t runs k → x ≡ take (k * t) message → b ≡ x ++ drop (k * t) b₀
+    → Filling n t runs message b₀ (k * t) (k * t) k b
+filling_full {t = t} {runs} {message} {b₀} {k = k} F hx hb = record {
+  low = F.most;
+  at_is = refl;
+  done_is = sym (total_full t runs k F.whole);
+  symbols = hb ∙ ap (λ y. y ++ drop (k * t) b₀) (hx ∙ sym (filled_full t runs message k F.whole));
+}
+
 module _ {n t : ℕ} {runs b₀ message : List ℕ} (h : Lent n t runs b₀ message) where
   pub whole_message : length message ≡ total runs n
   whole_message = h.message_long ∙ sym (total_count h.of)
-
-  pub filling_full : {k e : ℕ} {x b : List ℕ} → Full n t runs k → e ≡ k * t → x ≡ take (e - 0) (drop 0 message)
-      → b ≡ take 0 b₀ ++ (x ++ drop (e - 0) (drop 0 b₀)) → Lent n t runs b message × Filling n t runs message b e e k b
-  filling_full {k} {e} {x} {b} F he hx hb =
-      let r = full_room h F in
-      let q : x ≡ take e message = hx ∙ ap (λ y. take y message) (sub-zero e) in
-      let c = front_copied x b₀ b e (ap length q ∙ length-take-le e message (omega arith)) (omega arith) hb in (
-        record { L = h.L; of = h.of; block_long = c.1 ∙ h.block_long; message_long = h.message_long },
-        record {
-          low = F.most;
-          at_is = he;
-          done_is = he ∙ sym (total_full t runs k F.whole);
-          symbols = c.0 ∙ ap (λ y. y ++ drop e b) (q ∙ ap (λ y. take y message) he ∙ sym (filled_full t runs message k F.whole));
-        },
-      )
 
   pub filling_long : {a done j : ℕ} {b : List ℕ} → Filling n t runs message b₀ a done j b → length b ≡ length b₀
   filling_long {a} {done} {j} f =
@@ -244,13 +216,13 @@ module _ {n t : ℕ} {runs b₀ message : List ℕ} (h : Lent n t runs b₀ mess
     omega (arith, f.done_is, room h.of l, h.message_long),
   )
 
-  pub filling_more : {a done j e next stop k : ℕ} {b x z b' b'' : List ℕ} → Filling n t runs message b₀ a done j b → j < n
+  pub filling_more : {a done j e next stop : ℕ} {b x z b' b'' : List ℕ} → Filling n t runs message b₀ a done j b → j < n
       → e ≡ a + get_or runs j 0 → next ≡ done + get_or runs j 0 → stop ≡ a + t → x ≡ take (next - done) (drop done message)
-      → b' ≡ take a b ++ (x ++ drop (e - a) (drop a b)) → k ≡ stop - e → z ≡ replicate k 0
+      → b' ≡ take a b ++ (x ++ drop (e - a) (drop a b)) → z ≡ replicate (length (take (stop - e) (drop e b'))) 0
       → b'' ≡ take e b' ++ (z ++ drop (stop - e) (drop e b'))
-      → Filling n t runs message b₀ stop next (j + 1) b''
+      → Filling n t runs message b₀ ((j + 1) * t) next (j + 1) b''
   unfolding filled
-  filling_more {a} {done} {j} {e} {next} {stop} {k} {b} {x} {z} {b'} f l he hn hs hx hb hk hz hb' =
+  filling_more {a} {done} {j} {e} {next} {stop} {b} {x} {z} {b'} f l he hn hs hx hb hz hb' =
       let r = runs_short h.of j in
       let w = whole_message in
       let y = take (get_or runs j 0) (drop (total runs j) message) in
@@ -262,14 +234,17 @@ module _ {n t : ℕ} {runs b₀ message : List ℕ} (h : Lent n t runs b₀ mess
       let one : b' ≡ (p ++ x) ++ drop e b₀ =
       hb ∙ part_write p x b₀ {a = a} {e = e} {w = b} f.symbols (len ∙ sym f.at_is) (omega arith) in
       let lp : length (p ++ x) ≡ e = rw length-append (omega (arith, len, lx, f.at_is)) in
-      let hk' : k ≡ t - get_or runs j 0 = omega arith in
-      let hz' : z ≡ replicate (t - get_or runs j 0) 0 = hz ∙ ap (λ u. replicate u 0) hk' in
+      let long : length b' ≡ length b₀ = omega (arith, ap length one, length-append (p ++ x) (drop e b₀), length-drop e b₀, f.at_is, section_start t l, h.block_long) in
+      let left : length (take (stop - e) (drop e b')) ≡ t - get_or runs j 0
+      = length_part b' e (stop - e) (omega (arith, f.at_is, section_start t l, h.block_long)) ∙ omega arith in
+      let hz' : z ≡ replicate (t - get_or runs j 0) 0 = hz ∙ ap (λ u. replicate u 0) left in
+      let start : stop ≡ (j + 1) * t = omega (arith, f.at_is) in
       record {
         low = omega arith;
-        at_is = omega (arith, f.at_is);
+        at_is = refl;
         done_is = hn ∙ ap (λ u. u + get_or runs j 0) f.done_is ∙ sym (total_more runs j) ∙ ap (total runs) (sym (add-one j));
         symbols = hb' ∙ part_write (p ++ x) z b₀ {a = e} {e = stop} {w = b'} one lp (omega arith)
-            ∙ ap (λ u. u ++ drop stop b₀) (append_assoc p x z ∙ ap₂ (λ u v. p ++ (u ++ v)) hx' hz' ∙ ap (filled t runs message) (sym (add-one j)));
+            ∙ ap₂ (λ u v. u ++ drop v b₀) (append_assoc p x z ∙ ap₂ (λ u v. p ++ (u ++ v)) hx' hz' ∙ ap (filled t runs message) (sym (add-one j))) start;
       }
 
   pub filling_end : {a done j : ℕ} {b : List ℕ} → Filling n t runs message b₀ a done j b → n ≤ j → (K : Layout) → RunsOf n t K runs → Spread K message b

@@ -7,16 +7,16 @@ use Rattle.std.proofs.lemmas.Bool.{not_from_false, not_from_true}
 use Rattle.sealing.proofs.message_of.Goals as goal
 
 pub is_codeword-requires : goal.is_codeword-requires
-is_codeword-requires c = (pass_plan _ _ _ (sym c.check.ensures.answer ∙ c.in-Pass.is), (pass_long _ _ _ (sym c.check.ensures.answer ∙ c.in-Pass.is)).0)
+is_codeword-requires c = (pass_plan _ _ _ (sym c.check.ensures.answer ∙ c.in-Ok.is), (pass_long _ _ _ (sym c.check.ensures.answer ∙ c.in-Ok.is)).0)
 
 pub returns-then-not-is_codeword : goal.returns-then-not-is_codeword
-returns-then-not-is_codeword c = crossed _ _ _ (sym c.check.ensures.answer ∙ c.in-Pass.is) (c.is_codeword.ensures.no (not-true _ (not_from_false _ c.if-not-is_codeword.true)))
+returns-then-not-is_codeword c = crossed _ _ _ (sym c.check.ensures.answer ∙ c.in-Ok.is) (c.is_codeword.ensures.no (not-true _ (not_from_false _ c.if-not-is_codeword.true)))
 
 pub gather-requires : goal.gather-requires
-gather-requires c = let e = pass_long _ _ _ (sym c.check.ensures.answer ∙ c.in-Pass.is) in record { L = _; of = c.check.ensures.of c.in-Pass.is; block_long = e.0; message_long = e.1 }
+gather-requires c = let e = pass_long _ _ _ (sym c.check.ensures.answer ∙ c.in-Ok.is) in record { L = _; of = c.check.ensures.of c.in-Ok.is; block_long = e.0; message_long = e.1 }
 
 pub returns-else-not-is_codeword : goal.returns-else-not-is_codeword
-returns-else-not-is_codeword c = read _ _ _ (sym c.check.ensures.answer ∙ c.in-Pass.is) (c.is_codeword.ensures.yes (not-false _ (not_from_true _ c.if-not-is_codeword.false))) (c.gather.ensures _ (c.check.ensures.of c.in-Pass.is))
+returns-else-not-is_codeword c = read _ _ _ (sym c.check.ensures.answer ∙ c.in-Ok.is) (c.is_codeword.ensures.yes (not-false _ (not_from_true _ c.if-not-is_codeword.false))) (c.gather.ensures _ (c.check.ensures.of c.in-Ok.is))
 
-pub returns-in-Stop : goal.returns-in-Stop
-returns-in-Stop c = reads_refused _ _ _ (sym c.check.ensures.answer ∙ c.in-Stop.is)
+pub returns-in-Err : goal.returns-in-Err
+returns-in-Err c = reads_refused _ _ _ (sym c.check.ensures.answer ∙ c.in-Err.is)

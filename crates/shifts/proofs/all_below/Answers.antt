@@ -1,23 +1,11 @@
-use Prim.Native.Nat.{◌-◌}
-use Rattle.shifts.specs.ShiftsLaws.{test_stops, test_goes_on, test_ends}
-use borrow.Author.Rules.{rules}
-use mathlib.Core.Path.{refl}
+-- `all_below` meets its contract: the chain tests every shift. Assumes nothing.
+use Rattle.std.proofs.Common.{◌∙◌, ltb, rules, tests}
+use Rattle.std.proofs.lemmas.Iterator.{YieldsList-from_slice}
+use Rattle.std.proofs.lemmas.Iterator.Search.{all_from_yields_List}
+use Rattle.shifts.specs.ShiftsLaws.{list_all_below}
 use Rattle.shifts.proofs.all_below.Goals as goal
 
-pub loop-i-init : goal.loop-i-init
-loop-i-init c = (search rules, refl)
-
-pub returns-then-t-wide : goal.returns-then-t-wide
-returns-then-t-wide c =
-    test_stops _ _ _ c.loop-i.invariant.1 c.wide.ensures
-    c.loop-i-test.true c.if-t-wide.true
-
-pub loop-i-preserved : goal.loop-i-preserved
-loop-i-preserved c = (
-  search rules,
-  test_goes_on _ _ _ c.loop-i.invariant.1 c.wide.ensures
-      c.loop-i-test.true c.if-t-wide.false,
-)
-
 pub returns : goal.returns
-returns c = test_ends _ _ _ c.loop-i.invariant.1 c.loop-i-test.false
+returns c =
+    all_from_yields_List (λ p. ltb p c.args.t) _ _ _ c.all.ensures.ran (YieldsList-from_slice c.args.s.now cc) (λ x b q k. search (rules, tests))
+    ∙ list_all_below c.args.t c.args.s.now

@@ -1,28 +1,13 @@
 -- `starts::enter_rows` meets its contract: the two rows of the place, in the section that is reached.
 use mathlib.Core.Path.{refl, ◌∙◌}
 use mathlib.Core.Logic.{inl, inr}
-use native.Mathlib.Omega.{arith}
 use Rattle.tables.specs.Picture.{counts}
-use Rattle.tables.proofs.Spots.{reached_stands}
 use Rattle.tables.proofs.Scan.{marked_inside}
 use Rattle.starts.specs.Starts.{spot_rows, starting_long, top_room, bottom_room, starting_more}
 use Rattle.starts.proofs.enter_rows.Goals as goal
 
 pub reach-here-requires : goal.reach-here-requires
 reach-here-requires c = (c.requires.starting.0.startable.lent.good, c.requires.reached, marked_inside c.requires.starting.0.startable.lent c.args.c.0 c.requires.starting.1)
-
-pub overflow_sub-spot : goal.overflow_sub-spot
-overflow_sub-spot c = omega (arith, c.reach-here.ensures.0.passed)
-
-pub top-high-requires : goal.top-high-requires
-top-high-requires c = omega (arith, c.reach-here.ensures.0.passed, c.reach-here.ensures.0.ends, c.reach-here.ensures.1, c.requires.starting.0.startable.lent.good.t_max)
-
-pub bottom-low-requires : goal.bottom-low-requires
-bottom-low-requires c = (
-  reached_stands c.reach-here.ensures.0 c.reach-here.ensures.1,
-  omega (arith, c.reach-here.ensures.0.shift, c.requires.starting.0.startable.lent.good.below _ c.reach-here.ensures.0.inside),
-  c.requires.starting.0.startable.lent.good.t_max,
-)
 
 pub bounds-tally-a : goal.bounds-tally-a
 bounds-tally-a c = starting_long c.requires.starting.0 (inl (c.top-high.ensures ∙ (spot_rows c.reach-here.ensures.0 c.reach-here.ensures.1).0))

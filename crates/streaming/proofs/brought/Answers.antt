@@ -6,12 +6,11 @@ use lib.ListN.{length, take, drop}
 use lib.IntN.{pos}
 use lib.Signed.{lt_z}
 use mir.Facts.{to_z-of_z}
-use native.Mathlib.Omega.{arith}
 use borrow.Author.Tests.{lt-ltb}
 use Rattle.io.specs.Counts.{clamp_len}
 use Rattle.stream.specs.Streams.{taken_of, brought_of}
 use Rattle.stream.proofs.Theorems.{full_lost}
-use Rattle.stream.proofs.WorksLaws.{back_long, clamped_fits}
+use Rattle.stream.proofs.WorksLaws.{back_long}
 use Rattle.streaming.proofs.brought.Goals as goal
 
 pub returns-then-got-lt0 : goal.returns-then-got-lt0

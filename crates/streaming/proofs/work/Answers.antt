@@ -14,37 +14,37 @@ pub enum_told-1 : goal.enum_told-1
 enum_told-1 c = search rules
 
 pub advance-next-requires : goal.advance-next-requires
-advance-next-requires c = sym c.check_stream.ensures ∙ c.in-Pass.is
+advance-next-requires c = sym c.check_stream.ensures ∙ c.in-Ok.is
 
 pub asked-requires : goal.asked-requires
 asked-requires c = search rules
 
-pub shape_of-block-in-Stop : goal.shape_of-block-in-Stop
-shape_of-block-in-Stop c = search rules
+pub shape_of-block-in-Err : goal.shape_of-block-in-Err
+shape_of-block-in-Err c = search rules
 
-pub shape_of-marks-in-Stop : goal.shape_of-marks-in-Stop
-shape_of-marks-in-Stop c = search rules
+pub shape_of-marks-in-Err : goal.shape_of-marks-in-Err
+shape_of-marks-in-Err c = search rules
 
-pub shape_of-sheet-in-Stop : goal.shape_of-sheet-in-Stop
-shape_of-sheet-in-Stop c = search rules
+pub shape_of-sheet-in-Err : goal.shape_of-sheet-in-Err
+shape_of-sheet-in-Err c = search rules
 
-pub shape_of-input-in-Stop : goal.shape_of-input-in-Stop
-shape_of-input-in-Stop c = search rules
+pub shape_of-input-in-Err : goal.shape_of-input-in-Err
+shape_of-input-in-Err c = search rules
 
-pub returns-in-Stop : goal.returns-in-Stop
-returns-in-Stop c = works_bad _ _ _ _ _ _ (sym c.check_stream.ensures ∙ c.in-Stop.is)
+pub returns-in-Err : goal.returns-in-Err
+returns-in-Err c = works_bad _ _ _ _ _ _ (sym c.check_stream.ensures ∙ c.in-Err.is)
 
-pub shape_of-block-in-Pass : goal.shape_of-block-in-Pass
-shape_of-block-in-Pass c = search rules
+pub shape_of-block-in-Ok : goal.shape_of-block-in-Ok
+shape_of-block-in-Ok c = search rules
 
-pub shape_of-marks-in-Pass : goal.shape_of-marks-in-Pass
-shape_of-marks-in-Pass c = search rules
+pub shape_of-marks-in-Ok : goal.shape_of-marks-in-Ok
+shape_of-marks-in-Ok c = search rules
 
-pub shape_of-sheet-in-Pass : goal.shape_of-sheet-in-Pass
-shape_of-sheet-in-Pass c = search rules
+pub shape_of-sheet-in-Ok : goal.shape_of-sheet-in-Ok
+shape_of-sheet-in-Ok c = search rules
 
-pub shape_of-input-in-Pass : goal.shape_of-input-in-Pass
-shape_of-input-in-Pass c = search rules
+pub shape_of-input-in-Ok : goal.shape_of-input-in-Ok
+shape_of-input-in-Ok c = search rules
 
-pub returns-in-Pass : goal.returns-in-Pass
-returns-in-Pass c = works_passed (sym c.check_stream.ensures ∙ c.in-Pass.is) c.advance-next.ensures c.asked.ensures
+pub returns-in-Ok : goal.returns-in-Ok
+returns-in-Ok c = works_passed (sym c.check_stream.ensures ∙ c.in-Ok.is) c.advance-next.ensures c.asked.ensures

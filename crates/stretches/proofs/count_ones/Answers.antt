@@ -4,4 +4,4 @@ use Rattle.stretches.specs.StretchLaws.{count_all}
 use Rattle.stretches.proofs.count_ones.Goals as goal
 
 pub returns : goal.returns
-returns c = c.ones_in.ensures.0 ∙ count_all _ (λ i. (c.shared_slice_known-1.given i).fits)
+returns c = c.ones_in.ensures.0 ∙ count_all _ (λ i. (c.type_inv.marks i).fits)

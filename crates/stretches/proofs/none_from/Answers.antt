@@ -9,11 +9,11 @@ pub returns-then-marks-i : goal.returns-then-marks-i
 returns-then-marks-i c = sym (none_past _ _ (omega arith))
 
 pub returns-then-marks-i-ne0 : goal.returns-then-marks-i-ne0
-returns-then-marks-i-ne0 c = none_set _ _ c.if-marks-i.false (c.shared_slice_known-2-1.given _).fits c.if-marks-i-ne0.true
+returns-then-marks-i-ne0 c = none_set _ _ c.if-marks-i.false (c.type_inv.marks _).fits c.if-marks-i-ne0.true
 
 pub returns : goal.returns
 returns c =
-    let byte = c.shared_slice_known-2-1.given in
+    let byte = c.type_inv.marks in
     c.zero_bytes.ensures
     ∙ zero_rest _ _ (omega arith) (λ i. (byte i).fits)
     ∙ none_clear _ _ c.if-marks-i.false (byte _).fits c.if-marks-i-ne0.false

@@ -10,8 +10,8 @@ returns-then-part-ne0 c = none_first c.cut_of-cut.ensures _ c.part.ensures refl 
 
 pub returns-then-not-zero_bytes : goal.returns-then-not-zero_bytes
 returns-then-not-zero_bytes c =
-    none_middle c.cut_of-cut.ensures _ c.part.ensures refl c.requires (λ j. (c.shared_slice_known-1.given j).fits) c.zero_bytes.ensures (not-true _ (not_from_false _ c.if-not-zero_bytes.true))
+    none_middle c.cut_of-cut.ensures _ c.part.ensures refl c.requires (λ j. (c.type_inv.marks j).fits) c.zero_bytes.ensures (not-true _ (not_from_false _ c.if-not-zero_bytes.true))
 
 pub returns : goal.returns
 returns c =
-    none_last c.cut_of-cut.ensures _ c.part.ensures c.part-2.ensures c.requires (λ j. (c.shared_slice_known-1.given j).fits) c.zero_bytes.ensures c.if-part-ne0.false (not-false _ (not_from_true _ c.if-not-zero_bytes.false))
+    none_last c.cut_of-cut.ensures _ c.part.ensures c.part-2.ensures c.requires (λ j. (c.type_inv.marks j).fits) c.zero_bytes.ensures c.if-part-ne0.false (not-false _ (not_from_true _ c.if-not-zero_bytes.false))

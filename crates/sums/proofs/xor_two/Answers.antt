@@ -1,20 +1,10 @@
-use Prim.Native.Nat.{◌-◌}
-use mathlib.Core.Path.{refl}
+use mathlib.Core.Path.{ap, sym}
 use native.Mathlib.Omega.{arith}
-use Rattle.math.specs.Xor.{◌⊕◌}
-use Rattle.sums.specs.SumLaws.{with_two}
-use Rattle.tables.specs.Sweeps.{mapped_none, mapped_more, mapped_all}
+use lib.ListN.{get_or, set}
+use Rattle.math.specs.Xor.{◌⊕◌, ⊕_assoc}
+use Rattle.tables.specs.Sweeps.{mapped_more}
 use Rattle.sums.proofs.xor_two.Goals as goal
-
-pub loop-i-init : goal.loop-i-init
-loop-i-init c = (omega arith, mapped_none (with_two c.args.a.now c.args.b.now) c.args.dst.now)
 
 pub loop-i-preserved : goal.loop-i-preserved
 unfolding ◌⊕◌
-loop-i-preserved c = (omega arith, mapped_more _ c.loop-i.invariant.1 (omega arith) refl)
-
-pub shape_of-dst : goal.shape_of-dst
-shape_of-dst c = c.loop-i.invariant.1.long
-
-pub returns : goal.returns
-returns c = mapped_all c.loop-i.invariant.1 (omega arith)
+loop-i-preserved c = mapped_more _ c.loop-i.invariant (omega arith) (ap (set c.loop-i.dst c.loop-i.i) (sym (⊕_assoc (get_or c.loop-i.dst c.loop-i.i 0) (get_or c.args.a.now c.loop-i.i 0) (get_or c.args.b.now c.loop-i.i 0))))

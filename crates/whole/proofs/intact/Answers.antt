@@ -25,4 +25,4 @@ pub slice_bounds-zero_bytes-end-2 : goal.slice_bounds-zero_bytes-end-2
 slice_bounds-zero_bytes-end-2 c = front_long _ _ (summed c.syndromes.ensures _).room
 
 pub returns : goal.returns
-returns c = (summed c.syndromes.ensures _, intact c.requires.lent.0 c.requires.lent.1 (λ i. (c.shared_slice_known-2-1.given i).fits) (sym c.zero_bytes.ensures ∙ not-false _ (not_from_true _ c.if-not-zero_bytes.false)) c.syndromes.ensures (sums_same c.syndromes.ensures _) c.zero_bytes-2.ensures)
+returns c = (summed c.syndromes.ensures _, intact c.requires.lent.0 c.requires.lent.1 (λ i. (c.type_inv.block i).fits) (sym c.zero_bytes.ensures ∙ not-false _ (not_from_true _ c.if-not-zero_bytes.false)) c.syndromes.ensures (sums_same c.syndromes.ensures _) c.zero_bytes-2.ensures)

@@ -11,17 +11,17 @@ overflow_mul-places c = omega (arith, places_most _ c.requires.0)
 pub overflow_add-bytes : goal.overflow_add-bytes
 overflow_add-bytes c = omega (arith, places_most _ c.requires.0)
 
-pub slice_bounds-clear_bytes-end : goal.slice_bounds-clear_bytes-end
-slice_bounds-clear_bytes-end c = places_fit _ c.requires.0 c.args.block.now c.requires.1
+pub slice_bounds-fill-end : goal.slice_bounds-fill-end
+slice_bounds-fill-end c = places_fit _ c.requires.0 c.args.block.now c.requires.1
 
-pub slice_bounds-clear_bytes-end-2 : goal.slice_bounds-clear_bytes-end-2
-slice_bounds-clear_bytes-end-2 c = front_long _ c.args.block.now (places_fit _ c.requires.0 c.args.block.now c.requires.1)
+pub slice_bounds-fill-end-2 : goal.slice_bounds-fill-end-2
+slice_bounds-fill-end-2 c = front_long _ c.args.block.now (places_fit _ c.requires.0 c.args.block.now c.requires.1)
 
-pub slice_bounds-clear_bytes-end-3 : goal.slice_bounds-clear_bytes-end-3
-slice_bounds-clear_bytes-end-3 c = bytes_fit _ c.requires.0 c.args.marks.now c.requires.2
+pub slice_bounds-fill-end-3 : goal.slice_bounds-fill-end-3
+slice_bounds-fill-end-3 c = bytes_fit _ c.requires.0 c.args.marks.now c.requires.2
 
-pub slice_bounds-clear_bytes-end-4 : goal.slice_bounds-clear_bytes-end-4
-slice_bounds-clear_bytes-end-4 c = front_long _ c.args.marks.now (bytes_fit _ c.requires.0 c.args.marks.now c.requires.2)
+pub slice_bounds-fill-end-4 : goal.slice_bounds-fill-end-4
+slice_bounds-fill-end-4 c = front_long _ c.args.marks.now (bytes_fit _ c.requires.0 c.args.marks.now c.requires.2)
 
 pub returns : goal.returns
 returns c =
@@ -31,4 +31,4 @@ returns c =
     let k = c.args.plan.n * c.args.plan.t in
     let a = places_fit _ p.0 v p.1 in
     let b = bytes_fit _ p.0 m p.2 in
-    begun _ v m _ _ p.0 (part_long k v c.clear_bytes.new.s a c.clear_bytes.auto.s ∙ p.1) (part_long ((k + 7) / 8) m c.clear_bytes-2.new.s b c.clear_bytes-2.auto.s ∙ p.2) (cleared_front k v c.clear_bytes.new.s a c.clear_bytes.ensures) (cleared_front ((k + 7) / 8) m c.clear_bytes-2.new.s b c.clear_bytes-2.ensures) (part_rest k v c.clear_bytes.new.s a c.clear_bytes.auto.s) (part_rest ((k + 7) / 8) m c.clear_bytes-2.new.s b c.clear_bytes-2.auto.s)
+    begun _ v m _ _ p.0 (part_long k v c.fill.new.self a c.fill.auto.self ∙ p.1) (part_long ((k + 7) / 8) m c.fill-2.new.self b c.fill-2.auto.self ∙ p.2) (cleared_front k v c.fill.new.self a (c.fill.ensures.after (λ y e. e))) (cleared_front ((k + 7) / 8) m c.fill-2.new.self b (c.fill-2.ensures.after (λ y e. e))) (part_rest k v c.fill.new.self a c.fill.auto.self) (part_rest ((k + 7) / 8) m c.fill-2.new.self b c.fill-2.auto.self)

@@ -1,17 +1,11 @@
--- `put_four` meets its contract: four bytes stored one after the other. Assumes nothing.
-use native.Mathlib.Omega.{arith}
-use lib.ListN.{length-set}
-use Rattle.bits.specs.Short.{stored_four}
+-- `put_four` meets its contract: the bytes that are copied are the lowest of the word. Assumes nothing.
+use Rattle.std.proofs.Common.{◌≡◌, refl, ◌∙◌, ap, take}
+use Rattle.std.specs.Int.{to_le_bytes, w64}
+use Rattle.bits.specs.Short.{stored_bytes, low_four}
 use Rattle.bits.proofs.short.put_four.Goals as goal
 
-pub bounds-marks-i-2 : goal.bounds-marks-i-2
-bounds-marks-i-2 c = rw (length-set) (omega arith)
-
-pub bounds-marks-i-3 : goal.bounds-marks-i-3
-bounds-marks-i-3 c = rw (length-set, length-set) (omega arith)
-
-pub bounds-marks-i-4 : goal.bounds-marks-i-4
-bounds-marks-i-4 c = rw (length-set, length-set, length-set) (omega arith)
-
 pub returns : goal.returns
-returns c = stored_four c.args.marks.now c.args.i c.args.word (omega arith)
+returns c =
+    let w = c.args.word in
+    let low : c.copy_from_slice.new.self ≡ take 4 (to_le_bytes w64 w) = c.copy_from_slice.ensures.after ∙ ap (take 4) c.to_le_bytes.ensures in
+    rw low (stored_bytes (take 4 (to_le_bytes w64 w)) refl (low_four w) c.requires refl)

@@ -1,8 +1,9 @@
--- `bits::words::four_bytes` meets its contract: four bytes, each raised to its place.
-use Rattle.bits.specs.Words.{lanes_four}
+-- `bits::words::four_bytes` meets its contract: a number read from four bytes.
+use Rattle.std.proofs.Common.{◌∙◌}
+use Rattle.bits.specs.Words.{lanes_read}
 use Rattle.bits.proofs.words.four_bytes.Goals as goal
 
 pub returns : goal.returns
 returns c =
-    let a = c.args in
-    lanes_four a.marks.now a.i _ _ _ _ (λ b. (c.shared_slice_known-1.given b).fits) c.lane.ensures c.lane-2.ensures c.lane-3.ensures c.lane-4.ensures
+    let chunk = rw c.unwrap-bytes.ensures at c.try_into.ensures in
+    lanes_read c.args.i 3 c.unwrap-bytes.result chunk.1.same (λ b. (c.type_inv.marks b).fits) (c.from.ensures ∙ c.from_le_bytes.ensures)

@@ -1,8 +1,8 @@
--- `bits::words::full_word` meets its contract: eight bytes, each raised to its place.
-use Rattle.bits.specs.Words.{lanes_eight}
+-- `bits::words::full_word` meets its contract: a number read from eight bytes.
+use Rattle.bits.specs.Words.{lanes_read, lanes_full}
 use Rattle.bits.proofs.words.full_word.Goals as goal
 
 pub returns : goal.returns
 returns c =
-    lanes_eight c.args.marks.now c.args.i _ _ _ _ _ _ _ _ (λ b. (c.shared_slice_known-1.given b).fits)
-    c.lane.ensures c.lane-2.ensures c.lane-3.ensures c.lane-4.ensures c.lane-5.ensures c.lane-6.ensures c.lane-7.ensures c.lane-8.ensures
+    let chunk = rw c.unwrap-bytes.ensures at c.try_into.ensures in
+    lanes_full (lanes_read c.args.i 7 c.unwrap-bytes.result chunk.1.same (λ b. (c.type_inv.marks b).fits) c.from_le_bytes.ensures)

@@ -1,13 +1,24 @@
-use Prim.Native.Nat.{◌-◌}
-use native.Mathlib.Omega.{arith}
-use Rattle.bits.specs.Words.{lanes_begin, lanes_next, lanes_last}
+use Rattle.std.proofs.Common.{◌≡◌, refl, ◌+◌, ◌-◌, ◌*◌, ◌^◌, ◌%◌, ◌∙◌, length, get_or, take, drop, arith, get_or-take, get_or-drop, length-drop, length-take-le, shl_exact}
+use Rattle.bits.specs.Words.{lanes_more, lanes_last}
 use Rattle.bits.proofs.words.last_word.Goals as goal
 
-pub loop-a-init : goal.loop-a-init
-loop-a-init c = (omega arith, omega arith, omega arith, lanes_begin c.args.marks.now c.args.i)
-
-pub loop-a-preserved : goal.loop-a-preserved
-loop-a-preserved c = (omega arith, omega arith, omega arith, lanes_next c.lane-word.result c.loop-a.invariant.0 c.loop-a.invariant.3 c.loop-a.invariant.2 (c.shared_slice_known-1.given c.loop-a.a).fits c.lane-word.ensures)
+pub loop-k-preserved : goal.loop-k-preserved
+loop-k-preserved c =
+    let m = c.args.marks.now in
+    let i = c.args.i in
+    let k = c.loop-k.k in
+    let x = c.from.result in
+    let rest = length m - i in
+    let long : length (take rest (drop i m)) ≡ rest = length-take-le rest (drop i m) (rw length-drop (omega arith)) in
+    let e : x ≡ get_or m (i + k) 0 = c.from.ensures ∙ get_or-take rest (drop i m) k 0 (omega arith) ∙ get_or-drop i m k 0 in
+    let small = (c.type_inv.marks (i + k)).fits in
+    let raised : x * 2 ^ (8 * k) % 2 ^ 64 ≡ get_or m (i + k) 0 * 2 ^ (8 * k) = rw e (shl_exact 8 (8 * k) 64 small (omega arith)) in
+    lanes_more _ (x * 2 ^ (8 * k) % 2 ^ 64) c.loop-k.invariant small raised refl
 
 pub returns : goal.returns
-returns c = lanes_last c.loop-a.invariant.3 (omega arith) (omega arith)
+returns c =
+    let m = c.args.marks.now in
+    let i = c.args.i in
+    let rest = length m - i in
+    let long : length (take rest (drop i m)) ≡ rest = length-take-le rest (drop i m) (rw length-drop (omega arith)) in
+    lanes_last c.loop-k.invariant (omega arith) (omega arith)

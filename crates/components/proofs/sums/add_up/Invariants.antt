@@ -1,10 +1,6 @@
--- `sums::add_up` meets its contract. The invariant: the rows before r are added up. The measure is what is left of the rows. Assumes nothing.
-use Prim.Native.Nat.{◌-◌, ◌≤◌}
+-- `sums::add_up` meets its contract. The invariant: the rows before r are added up. Assumes nothing.
 use Rattle.components.specs.Lists.{Adds}
 use Rattle.components.proofs.sums.add_up.Given as goal
 
 abbrev pub invariant-loop-r : goal.invariant-loop-r
-invariant-loop-r l = Adds l.rows l.parent l.sum l.total l.r × (l.r ≤ l.rows)
-
-abbrev pub decreases-loop-r : goal.decreases-loop-r
-decreases-loop-r l = l.rows - l.r
+invariant-loop-r l = Adds l.rows l.parent l.sum l.total l.r

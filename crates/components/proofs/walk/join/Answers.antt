@@ -12,9 +12,6 @@ offset_bounds-shifts-section c = let r = joinable c.requires.0 c.requires.1 in o
 pub bounds-shifts-section : goal.bounds-shifts-section
 bounds-shifts-section c = (joinable c.requires.0 c.requires.1).section
 
-pub overflow_cast-shifts : goal.overflow_cast-shifts
-overflow_cast-shifts c = omega (arith, c.shared_slice_known-2-1.given c.args.spot.section)
-
 pub bottom-requires : goal.bottom-requires
 bottom-requires c = let r = joinable c.requires.0 c.requires.1 in (c.requires.1.stands, r.shift, r.few)
 

@@ -1,5 +1,5 @@
 -- `walk::pass` meets its contract: down to the first place that closes a cycle, and on from there. Assumes nothing.
-use mathlib.Core.Path.{refl, ◌∙◌}
+use mathlib.Core.Path.{refl}
 use native.Mathlib.Omega.{arith}
 use Rattle.components.specs.Walking.{bare, first_at, passed_at, passed_none}
 use Rattle.components.proofs.walk.pass.Goals as goal
@@ -16,20 +16,14 @@ overflow_mul-places c = omega (arith, c.requires.good)
 pub overflow_cast-start : goal.overflow_cast-start
 overflow_cast-start c = omega (arith, c.requires.good)
 
-pub descend-first-requires : goal.descend-first-requires
-descend-first-requires c = (c.requires, bare c.pass_zeros-low.ensures.0 refl)
-
-pub returns-in_default : goal.returns-in_default
-returns-in_default c = passed_none c.requires c.in_default.is c.descend-first.ensures
-
 pub descend-requires : goal.descend-requires
-descend-requires c = ((first_at c.in-At.is c.descend-first.ensures).walking, bare c.pass_zeros-low.ensures.0 refl)
+descend-requires c = (c.requires, bare c.pass_zeros-low.ensures.0 refl)
 
-pub shape_of-parent-in_default : goal.shape_of-parent-in_default
-shape_of-parent-in_default c = c.descend-first.auto.parent
+pub returns-in_err-spot : goal.returns-in_err-spot
+returns-in_err-spot c = rw c.from_residual.ensures (passed_none c.requires c.in_err-spot.was c.descend.ensures)
 
-pub shape_of-parent : goal.shape_of-parent
-shape_of-parent c = c.descend.auto.parent ∙ c.descend-first.auto.parent
+pub descend-requires-2 : goal.descend-requires-2
+descend-requires-2 c = ((first_at c.in_ok-spot.was c.descend.ensures).walking, bare c.pass_zeros-low.ensures.0 refl)
 
 pub returns : goal.returns
-returns c = passed_at c.requires c.in-At.spot (first_at c.in-At.is c.descend-first.ensures) _ c.descend.ensures
+returns c = passed_at c.requires c.in_ok-spot.spot (first_at c.in_ok-spot.was c.descend.ensures) _ c.descend-2.ensures

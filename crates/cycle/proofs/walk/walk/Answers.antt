@@ -1,5 +1,4 @@
-use mathlib.Core.Path.{sym, ◌∙◌, ap}
-use Prim.Native.Nat.{◌-◌}
+use mathlib.Core.Path.{◌∙◌, ap}
 use native.Mathlib.Omega.{arith}
 use lib.ListN.{replicate}
 use Rattle.cycle.specs.Walks.{walking_start, walking_room, walking_long, walking_couple, walking_end, walking_all, walking_more}
@@ -7,7 +6,7 @@ use Rattle.cycle.proofs.walk.walk.Goals as goal
 
 pub loop-spot-init : goal.loop-spot-init
 loop-spot-init c = λ l w.
-    walking_start c.requires.walkable.good w c.clear_words.new.s c.requires.walkable.stands (c.clear_words.ensures ∙ ap (λ k. replicate k 0) c.requires.witness_len)
+    walking_start c.requires.walkable.good w c.fill.new.self c.requires.walkable.stands (c.fill.ensures.after (λ y e. e) ∙ ap (λ k. replicate k 0) c.requires.witness_len)
 
 pub pair-spot-requires : goal.pair-spot-requires
 pair-spot-requires c =
@@ -18,12 +17,6 @@ pub overflow_add-z : goal.overflow_add-z
 overflow_add-z c =
     let pre = c.requires.walkable in
     omega (arith, walking_room pre.good pre.walks (c.loop-spot.invariant pre.cycle pre.walks), pre.good.t_max)
-
-pub shape_of-witness-then-spot-first : goal.shape_of-witness-then-spot-first
-shape_of-witness-then-spot-first c =
-    let pre = c.requires in
-    let long = walking_long pre.walkable.good pre.walkable.walks (c.loop-spot.invariant pre.walkable.cycle pre.walkable.walks) in
-    c.pair-spot.auto.witness ∙ long ∙ sym pre.witness_len
 
 pub returns-then-spot-first : goal.returns-then-spot-first
 returns-then-spot-first c =

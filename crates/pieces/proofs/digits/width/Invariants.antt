@@ -1,10 +1,6 @@
 -- `width` meets its contract: the record Widening is its invariant. Assumes nothing.
-use Prim.Native.Nat.{◌-◌}
 use Rattle.pieces.specs.DigitLoops.{Widening}
 use Rattle.pieces.proofs.digits.width.Given as goal
 
 abbrev pub invariant-loop-k : goal.invariant-loop-k
 invariant-loop-k l = Widening l.n l.k l.power
-
-abbrev pub decreases-loop-k : goal.decreases-loop-k
-decreases-loop-k l = 19 - l.k

@@ -1,20 +1,16 @@
 -- `Plan::message_count` meets its contract. Assumes nothing.
+use Rattle.refusals.proofs.RefusalLaws.{handed_on}
 use Rattle.plan.proofs.PlanLaws.{good_bounds, count_is, count_not}
 use Rattle.plan.specs.Plans.{layout_of}
-use Rattle.refusals.specs.Refusals.{check_number}
-use mathlib.Core.Path.{sym, ◌∙◌, ap}
+use mathlib.Core.Path.{sym, ◌∙◌}
 use Rattle.plan.proofs.Plan.message_count.Goals as goal
 
 pub message_places-requires : goal.message_places-requires
-message_places-requires c = good_bounds _ (sym c.check.ensures ∙ c.in-Pass.is)
+message_places-requires c = good_bounds _ (sym c.in_ok-check.ensures)
 
-pub returns-in-Pass : goal.returns-in-Pass
+pub returns-clause-value : goal.returns-clause-value
 unfolding layout_of
-returns-in-Pass c =
-    let e = sym c.check.ensures ∙ c.in-Pass.is in
-    record { value = count_is _ e c.message_places.ensures; result_value = ap check_number (sym e) }
+returns-clause-value c = count_is _ (sym c.in_ok-check.ensures) c.message_places.ensures
 
-pub returns-in-Stop : goal.returns-in-Stop
-returns-in-Stop c =
-    let e = sym c.check.ensures ∙ c.in-Stop.is in
-    record { value = count_not _ e; result_value = ap check_number (sym e) }
+pub returns-in_err-check-clause-value : goal.returns-in_err-check-clause-value
+returns-in_err-check-clause-value c = handed_on _ c.from_residual.ensures.1 ∙ count_not _ (sym c.in_err-check.ensures)

@@ -1,19 +1,18 @@
 -- `Plan::powers` meets its contract: each answer by the test that gives it. Assumes nothing.
 use Rattle.plan.proofs.Answers.{failed, passed, powers_size, powers_not, powers_made}
 use Rattle.plan.proofs.PlanLaws.{size_fitting}
-use mathlib.Core.Path.{◌∙◌}
+use mathlib.Core.Path.{ap, ◌∙◌}
+use Rattle.std.specs.Prelude.{Ok}
 use Rattle.std.proofs.lemmas.Bool.{not_from_false, not_from_true}
 use Rattle.plan.proofs.Plan.powers.Goals as goal
 
 pub returns-then-not-size_fits : goal.returns-then-not-size_fits
 returns-then-not-size_fits c =
-    c.refused.ensures
-    ∙ powers_size _ _ _ (failed _ c.size_fits.ensures (not_from_false _ c.if-not-size_fits.true))
+    powers_size _ _ _ (failed _ c.size_fits.ensures (not_from_false _ c.if-not-size_fits.true))
 
 pub returns-then-not-powers_need : goal.returns-then-not-powers_need
 returns-then-not-powers_need c =
-    c.refused-then-not-powers_need.ensures
-    ∙ powers_not _ _ _ (passed _ c.size_fits.ensures (not_from_true _ c.if-not-size_fits.false)) (failed _ c.powers_need.ensures (not_from_false _ c.if-not-powers_need.true))
+    powers_not _ _ _ (passed _ c.size_fits.ensures (not_from_true _ c.if-not-size_fits.false)) (failed _ c.powers_need.ensures (not_from_false _ c.if-not-powers_need.true))
 
 pub powers-requires : goal.powers-requires
 powers-requires c =
@@ -22,5 +21,5 @@ powers-requires c =
 
 pub returns : goal.returns
 returns c =
-    c.good.ensures _ c.powers.ensures
+    ap Ok (c.good.ensures _ c.powers.ensures)
     ∙ powers_made _ _ _ (passed _ c.size_fits.ensures (not_from_true _ c.if-not-size_fits.false)) (passed _ c.powers_need.ensures (not_from_true _ c.if-not-powers_need.false))

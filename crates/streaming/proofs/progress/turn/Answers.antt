@@ -3,7 +3,7 @@ use mathlib.Core.Path.{refl}
 use Prim.Native.Nat.{◌+◌}
 use Rattle.lines.specs.Lines.{line_length}
 use native.Mathlib.Omega.{arith}
-use Rattle.stream.proofs.CourseLaws.{course_full, course_turn}
+use Rattle.stream.proofs.CourseLaws.{course_full, course_turn, room_not_on}
 use borrow.Author.Rules.{rules}
 use Rattle.streaming.proofs.progress.turn.Goals as goal
 
@@ -11,7 +11,7 @@ pub overflow_sub-sheet : goal.overflow_sub-sheet
 overflow_sub-sheet c = search rules
 
 pub returns-then-sheet-to-lt-LINE : goal.returns-then-sheet-to-lt-LINE
-returns-then-sheet-to-lt-LINE c = (course_full _ _ _ _ _ _ _ _ _ c.requires.0 c.requires.2 c.requires.1 c.if-sheet-to-lt-LINE.true, λ z. absurd (omega arith))
+returns-then-sheet-to-lt-LINE c = (course_full _ _ _ _ _ _ _ _ _ c.requires.0 c.requires.2 c.requires.1 c.if-sheet-to-lt-LINE.true, λ z. absurd (room_not_on z))
 
 pub overflow_add-most : goal.overflow_add-most
 overflow_add-most c = search rules

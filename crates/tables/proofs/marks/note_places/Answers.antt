@@ -1,30 +1,13 @@
-use mathlib.Core.Path.{sym, ◌∙◌}
-use Prim.Native.Nat.{◌-◌}
 use native.Mathlib.Omega.{arith}
 use Rattle.tables.proofs.Spots.{reached_on}
-use Rattle.tables.proofs.Counting.{due_inside, due_long, due_part, due_then, notes_at, notes_none, notes_then}
+use Rattle.tables.proofs.Counting.{due_inside, due_then, notes_at, notes_then}
 use Rattle.tables.proofs.marks.note_places.Goals as goal
-
-pub loop-d-init : goal.loop-d-init
-loop-d-init c = (omega arith, c.requires.due.1, c.requires.due.0, notes_none, c.requires.reached)
 
 pub overflow_cast-place : goal.overflow_cast-place
 overflow_cast-place c = omega (arith, due_inside c.loop-d.invariant.2 c.loop-d-test.true, c.loop-d.invariant.2.good.places_max)
 
 pub reach-here-requires : goal.reach-here-requires
 reach-here-requires c = (c.loop-d.invariant.2.good, c.loop-d.invariant.4, omega (arith, due_inside c.loop-d.invariant.2 c.loop-d-test.true))
-
-pub stretch-m-requires : goal.stretch-m-requires
-stretch-m-requires c = (c.loop-d.invariant.2.good, c.reach-here.ensures.0, c.reach-here.ensures.1, c.loop-d-test.true)
-
-pub note_stretch-requires : goal.note_stretch-requires
-note_stretch-requires c = record { due = (due_part c.stretch-m.ensures.2 c.loop-d.invariant.2, c.stretch-m.ensures.1); reached = (c.reach-here.ensures.0, c.stretch-m.ensures.0) }
-
-pub overflow_add-d : goal.overflow_add-d
-overflow_add-d c = omega (arith, c.stretch-m.ensures.2, due_inside c.loop-d.invariant.2 c.loop-d-test.true, c.loop-d.invariant.2.good.places_max)
-
-pub loop-d-smaller : goal.loop-d-smaller
-loop-d-smaller c = omega (arith, c.stretch-m.ensures.1, c.stretch-m.ensures.2, c.loop-d-test.true)
 
 pub loop-d-preserved : goal.loop-d-preserved
 loop-d-preserved c = (
@@ -34,9 +17,6 @@ loop-d-preserved c = (
   notes_then c.loop-d.invariant.0 (omega arith) c.loop-d.invariant.3 c.note_stretch.ensures,
   reached_on _ (omega arith) c.reach-here.ensures.0,
 )
-
-pub shape_of-tally : goal.shape_of-tally
-shape_of-tally c = due_long c.loop-d.invariant.2 ∙ sym (due_long c.requires.due.0)
 
 pub returns : goal.returns
 returns c = record { notes = notes_at (omega (arith, c.loop-d.invariant.1, c.loop-d-test.false)) c.loop-d.invariant.3; reached_2 = reached_on _ c.loop-d.invariant.1 c.loop-d.invariant.4 }

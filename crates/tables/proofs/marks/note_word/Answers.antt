@@ -1,6 +1,5 @@
 -- `tables::marks::note_word` meets its contract: a full word is noted in stretches, another one place by place.
 use native.Mathlib.Omega.{arith}
-use Rattle.tables.proofs.Spots.{reached_on}
 use Rattle.tables.proofs.Stretches.{ones_due, ones_noted}
 use Rattle.tables.proofs.marks.note_word.Goals as goal
 
@@ -9,9 +8,3 @@ note_places-requires c = record { due = (ones_due c.requires.lent.0 c.requires.s
 
 pub returns-then-word : goal.returns-then-word
 returns-then-word c = record { scanned_2 = ones_noted c.requires.lent.0 c.requires.scanned c.word_from-word.ensures c.if-word.true c.note_places.ensures.notes; reached_2 = c.note_places.ensures.reached_2 }
-
-pub note_inside-requires : goal.note_inside-requires
-note_inside-requires c = record { lent = (c.requires.lent.0, c.requires.lent.1, c.requires.lent.2, c.word_from-word.ensures); reached = (c.requires.reached, omega (arith, c.if-at-c.false)); scanned = c.requires.scanned }
-
-pub returns : goal.returns
-returns c = record { scanned_2 = c.note_inside.ensures; reached_2 = reached_on _ (omega arith) c.requires.reached }

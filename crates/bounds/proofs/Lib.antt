@@ -1,2 +1,0 @@
--- The cases of `size_fits`.
-pub mod Sizes

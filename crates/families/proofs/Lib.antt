@@ -1,2 +1,0 @@
--- The cases of `powers_need`.
-pub mod Conditions

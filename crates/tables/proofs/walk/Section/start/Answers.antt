@@ -1,6 +1,0 @@
--- `tables::walk::Section::start` meets its contract.
-use native.Mathlib.Omega.{arith}
-use Rattle.tables.proofs.walk.Section.start.Goals as goal
-
-pub overflow_cast-result : goal.overflow_cast-result
-overflow_cast-result c = omega (arith, c.shared_slice_known-1.given 0)
