@@ -201,6 +201,7 @@ pub never_eleven : Unused 11
 never_eleven = record {
   refusal = not_eleven;
   check = check_not_eleven;
+  made = check_not_eleven;
   recovery = recovery_not_eleven;
   reading = reading_not_eleven;
   count = check_not_eleven;

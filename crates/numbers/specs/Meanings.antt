@@ -82,6 +82,7 @@ pub record FetchMeans (p : Plan) (m l : List ℕ) (number count : ℕ) (l' : Lis
 pub record Unused (number : ℕ) : Type 0 where
   pub refusal : (x : Refusal) → number_of x ≢ number
   pub check : (k : Check) → check_number k ≢ number
+  pub made : (a : Result Plan Refusal) → check_number a ≢ number
   pub recovery : (a : Recovery) → recovery_number a ≢ number
   pub reading : (a : Reading) → reading_number a ≢ number
   pub count : (a : Result ℕ Refusal) → check_number a ≢ number
