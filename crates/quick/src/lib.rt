@@ -21,7 +21,8 @@ pub struct Passed {
     pub to: usize,
 }
 
-// Commands from this index of the bytes on, as long as they are among the four, whole, and inside the plan, and the sheet has room for a line.
+// Commands from this index of the bytes on, as long as they are among the four, whole, and inside the plan, and the sheet has room for a line. Not inlined: its loops then lie where they lie whatever its caller does, and so take as long.
+#[inline(never)]
 pub fn quick(
     places: usize,
     block: &mut [u8],
