@@ -1,13 +1,13 @@
 -- How perform keeps its promise.
--- Main results: performs_bad, performs_passed; size_none, size_found; acts_held.
-use Rattle.std.specs.Prelude.{◌≡◌, refl, Bool, List, [], ◌∷◌, ℕ, length, get_or, Ok, Err, Option, None, Some, MatchOption, ◌<◌}
+-- Main results: performs_bad, performs_passed; size_none, size_found; held_shown, acts_held.
+use Rattle.std.specs.Prelude.{◌≡◌, refl, Bool, List, [], ◌∷◌, ℕ, length, get_or, Ok, Err, Option, None, Some, IfSome, MatchOption, ◌<◌}
 use Rattle.std.proofs.Common.{ap, sym, subst, arith}
 use Rattle.refusals.specs.declared.Refusal.{Refusal}
 use Rattle.std.specs.Option.{unwrap_or}
 use Rattle.commands.specs.Commands.{size_of}
 use Rattle.commands.specs.declared.Command.{Command}
 use Rattle.plan.specs.declared.Plan.{Plan}
-use Rattle.act.specs.Acts.{Held, Acts}
+use Rattle.act.specs.Acts.{Held, held_plan, Acts}
 use Rattle.standing.specs.Standing.{held_check}
 use Rattle.turns.specs.Turns.{Turns}
 use Rattle.turns.proofs.TurnLaws.{same}
@@ -41,6 +41,11 @@ size_none (x ∷ b) e = absurd (omega arith)
 pub size_found : {s : ℕ} (o : Option ℕ) → MatchOption o (s ≡ 0) (λ k. (k ≡ s) × (0 < k)) → unwrap_or o 0 ≡ s
 size_found None e = sym e
 size_found (Some k) e = e.0
+
+-- the plan that is held, if one is
+pub held_shown : (held : Held) → IfSome held (λ p. held_plan held ≡ p)
+held_shown None = tt
+held_shown (Some p) = refl
 
 -- what was performed under the plan that is held
 pub acts_held : {c : Command} {held : Held} {plan : Plan} {v m text : List ℕ} {h' : Held} {v' m' : List ℕ} → held ≡ Some plan → Acts c (Some plan) v m text h' v' m' → Acts c held v m text h' v' m'

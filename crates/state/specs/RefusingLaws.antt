@@ -1,7 +1,7 @@
 -- The tests of a place and of a run with no product, and the cases of what refuses a command.
 -- Main results: inside_none, inside_some, within_none, within_some; early_no_plan, early_outside, early_inside; refusal_by, refusal_held, refusal_none, none_early, passes_planned.
-use Rattle.std.specs.Prelude.{◌≡◌, refl, Bool, true, false, not, ℕ, suc, ◌-◌, ◌*◌, ◌/◌, ◌≤◌, ◌<◌, leb, ltb, [], Result, Ok, Err, Option, None, Some, is_some}
-use Rattle.std.proofs.Common.{true≢false, sym, ◌∙◌, ap, div-lt_iff_lt-mul, le-div_iff_mul-le, mul_comm, arith, lt-ltb, le-ltb}
+use Rattle.std.specs.Prelude.{◌≡◌, refl, Bool, true, false, not, ℕ, suc, ◌-◌, ◌*◌, ◌/◌, ◌≤◌, ◌<◌, leb, ltb, [], Result, Ok, Err, Option, None, Some, is_some, IfSome}
+use Rattle.std.proofs.Common.{true≢false, sym, subst, ◌∙◌, ap, div-lt_iff_lt-mul, le-div_iff_mul-le, mul_comm, arith, lt-ltb, le-ltb}
 use Rattle.std.proofs.Math.Logic.{by_cases}
 use Rattle.std.proofs.Math.Decide.{dec_lt}
 use Rattle.std.proofs.Math.Dec.{leb-zero}
@@ -10,8 +10,7 @@ use Rattle.refusals.proofs.RefusalLaws.{number_once, answer_not_stop}
 use Rattle.refusals.specs.declared.Refusal.{Refusal}
 use Rattle.refusals.specs.declared.Refusal.TheVariants.{Early}
 use Rattle.refusals.specs.Refusals.{Check, check_number}
-use Rattle.std.specs.Option.{unwrap_or, ok_or}
-use Rattle.plan.specs.Plans.{no_plan}
+use Rattle.std.specs.Option.{ok_or}
 use Rattle.plan.specs.declared.Plan.{Plan}
 use Rattle.commands.specs.declared.Command.{Command}
 use Rattle.commands.specs.declared.Command.TheVariants.{NewPlan, SetShift, SetSymbol, MarkOne, MarkRun, Recover, Seal, Show, Figures, Straight, Powers, Ruler, Fetch}
@@ -75,9 +74,9 @@ refusal_by planned plan {c} {k} {r} e h s f g = h ∙ sym (ap (refusal_of (bare 
 
 -- the same by the plan that is held, or none
 pub refusal_held : {held : Option Plan} {plan : Plan} {c k : Command} {r : Check} → held ≡ Some plan → c ≡ k → r ≡ refusal_of (bare true plan) k →
-    (s : State) → s.planned ≡ is_some held → s.plan ≡ unwrap_or held no_plan → r ≡ refusal_of s c
+    (s : State) → s.planned ≡ is_some held → IfSome held (λ p. s.plan ≡ p) → r ≡ refusal_of s c
 refusal_held {held} {plan} q e h s f g =
-    refusal_by true plan e h s (f ∙ ap is_some q) (g ∙ ap (λ (x : Option Plan). unwrap_or x no_plan) q)
+    refusal_by true plan e h s (f ∙ ap is_some q) (subst (λ (x : Option Plan). IfSome x (λ p. s.plan ≡ p)) q g)
 
 -- with no plan every command that makes none is early
 pub refusal_none : (s : State) (c : Command) → makes_plan c ≡ false → s.planned ≡ false → Err Early ≡ refusal_of s c

@@ -1,8 +1,6 @@
 // What refuses a command, by the plan alone: one function per test. Nothing here can wrap, whatever the plan says.
-ghost use Rattle.std.specs.Prelude.{◌≡◌, true, false, ◌+◌, ◌*◌, leb, ltb, Ok, is_some};
+ghost use Rattle.std.specs.Prelude.{◌≡◌, true, false, ◌+◌, ◌*◌, leb, ltb, Ok, is_some, IfSome};
 ghost use Rattle.refusals.specs.Refusals.{unless};
-ghost use Rattle.std.specs.Option.{unwrap_or};
-ghost use Rattle.plan.specs.Plans.{no_plan};
 ghost use Rattle.refusals.specs.declared.Refusal.TheVariants as refusals;
 ghost use Rattle.state.specs.State.{State};
 ghost use Rattle.state.specs.Refusing.{makes_plan, early, refusal_of};
@@ -27,7 +25,7 @@ pub fn makes_plan(command: Command) -> bool
 // A command that makes no plan: one that makes a plan is refused with its plan. Each but these needs a plan.
 pub fn refusal(held: Option<Plan>, command: Command) -> Result<(), Refusal>
     requires { makes_plan command ≡ false }
-    ensures { (s : State) → s.planned ≡ is_some held → s.plan ≡ unwrap_or held no_plan → result ≡ refusal_of s command }
+    ensures { (s : State) → s.planned ≡ is_some held → IfSome held (λ p. s.plan ≡ p) → result ≡ refusal_of s command }
 {
     let plan = held.ok_or(Refusal::Early)?;
     let n = plan.n;
