@@ -1,5 +1,5 @@
 -- What counting and recovering say on buffers of the plan's lengths: their calls pass.
--- Main results: zeros_long, marked_is; loose_within, crossed_within; loose_long, crossed_long; on_recovered, on_loose, on_crossed; not_refused.
+-- Main results: zeros_long, marked_is; loose_within, crossed_within; loose_long, crossed_long; on_recovered, on_loose, on_crossed, on_loose_shown, on_crossed_shown; not_refused; by_success, by_loose, by_crossed.
 use Rattle.std.specs.Prelude.{◌≡◌, List, [], ◌∷◌, ℕ, ◌-◌, ◌*◌, ◌≤◌, take, Ok}
 use Rattle.std.proofs.Math.Path.{refl, ap}
 use Rattle.std.proofs.Common.{sym, ◌∙◌, length-take-le}
@@ -14,11 +14,12 @@ use Rattle.plan.proofs.PlanLaws.{good_bounds}
 use Rattle.plan.specs.declared.Plan.{Plan}
 use Rattle.code.specs.Marks.{mark_bytes, NoSpare, erasures}
 use Rattle.calls.specs.Calls.{counted_of}
-use Rattle.refusals.specs.Refusals.{Check, count_value}
+use Rattle.refusals.specs.Refusals.{Check, count_value, number_of}
 use Rattle.promises.specs.Promises.{Decides, Recovers}
 use Rattle.promises.proofs.Building.{count_passes, recover_passes}
-use Rattle.answers.specs.Answers.{recovery_count}
+use Rattle.answers.specs.Answers.{recovery_number, recovery_count}
 use Rattle.refusals.specs.declared.Refusal.{Refusal}
+use Rattle.refusals.specs.declared.Refusal.TheVariants as refusal
 use Rattle.answers.specs.declared.Recovery.{Recovery}
 use Rattle.answers.specs.declared.Recovery.TheVariants as recovery
 use Rattle.lines.specs.Lines.{line, recovered_word, loose_word, crossed_word}
@@ -76,6 +77,12 @@ module _ (p : Plan) (v m w : List ℕ) (a : Whole p v m) (w-long : length w ≡ 
         spare = rw f (no_marks_no_spare (layout_of p) (length m));
       }
 
+  pub on_loose : {text : List ℕ} (z : ℕ) → r ≡ recovery.Loose z → text ≡ line loose_word (z ∷ take z w') → Recovered p v m text v' m
+  on_loose z e t = record { means = recovering_by decided (rw e t) (rw e (ap (λ x. whole p x m) (decided.loose_keeps z e))); spare = a.spare }
+
+  pub on_crossed : {text : List ℕ} (z : ℕ) → r ≡ recovery.Crossed z → text ≡ line crossed_word (z ∷ take z w') → Recovered p v m text v' m
+  on_crossed z e t = record { means = recovering_by decided (rw e t) (rw e (ap (λ x. whole p x m) (decided.crossed_keeps z e))); spare = a.spare }
+
   -- so many entries of the list are shown
   pub loose_long : (z : ℕ) → r ≡ recovery.Loose z → length w' ≡ length w → length (take z w') ≡ z
   loose_long z e long = length-take-le z w' (loose_within z e long).0
@@ -83,12 +90,31 @@ module _ (p : Plan) (v m w : List ℕ) (a : Whole p v m) (w-long : length w ≡ 
   pub crossed_long : (z : ℕ) → r ≡ recovery.Crossed z → length w' ≡ length w → length (take z w') ≡ z
   crossed_long z e long = length-take-le z w' (crossed_within z e long).0
 
-  pub on_loose : {text : List ℕ} (z : ℕ) → r ≡ recovery.Loose z → length w' ≡ length w → text ≡ line loose_word (length (take z w') ∷ take z w') → Recovered p v m text v' m
-  on_loose z e long t = record { means = recovering_by decided (rw e (t ∙ ap (λ k. line loose_word (k ∷ take z w')) (loose_long z e long))) (rw e (ap (λ x. whole p x m) (decided.loose_keeps z e))); spare = a.spare }
+  -- the same where the line counts what is shown
+  pub on_loose_shown : {text : List ℕ} (z : ℕ) → r ≡ recovery.Loose z → length w' ≡ length w → text ≡ line loose_word (length (take z w') ∷ take z w') → Recovered p v m text v' m
+  on_loose_shown z e long t = on_loose z e (t ∙ ap (λ k. line loose_word (k ∷ take z w')) (loose_long z e long))
 
-  pub on_crossed : {text : List ℕ} (z : ℕ) → r ≡ recovery.Crossed z → length w' ≡ length w → text ≡ line crossed_word (length (take z w') ∷ take z w') → Recovered p v m text v' m
-  on_crossed z e long t = record { means = recovering_by decided (rw e (t ∙ ap (λ k. line crossed_word (k ∷ take z w')) (crossed_long z e long))) (rw e (ap (λ x. whole p x m) (decided.crossed_keeps z e))); spare = a.spare }
+  pub on_crossed_shown : {text : List ℕ} (z : ℕ) → r ≡ recovery.Crossed z → length w' ≡ length w → text ≡ line crossed_word (length (take z w') ∷ take z w') → Recovered p v m text v' m
+  on_crossed_shown z e long t = on_crossed z e (t ∙ ap (λ k. line crossed_word (k ∷ take z w')) (crossed_long z e long))
 
   -- nothing refuses the call
   pub not_refused : (x : Refusal) → r ≡ recovery.Refused x → ⊥
   not_refused x e = decided.not_refused x e
+
+  -- the answer by its number and count
+  pub by_success : {k : ℕ} → k ≡ recovery_number r → k ≡ 0 → r ≡ recovery.Recovered
+  by_success e z = decided.recovered_when.1 (decided.number.success_when.0 (sym e ∙ z))
+
+  pub by_loose : {k j z : ℕ} → k ≡ recovery_number r → j ≡ number_of refusal.Loose → z ≡ recovery_count r → k ≡ j → r ≡ recovery.Loose z
+  by_loose e f g h =
+      let q = decided.loose_when.1 (decided.number.loose_when.0 (sym e ∙ h ∙ f)) in
+      q.1 ∙ ap recovery.Loose (sym (g ∙ ap recovery_count q.1))
+
+  pub by_crossed : {k j z : ℕ} → k ≡ recovery_number r → j ≡ number_of refusal.Loose → z ≡ recovery_count r → (k ≡ 0 → ⊥) → (k ≡ j → ⊥) → r ≡ recovery.Crossed z
+  by_crossed {k} {j} {z} e f g a b = go r refl
+    where
+      go : (x : Recovery) → r ≡ x → r ≡ recovery.Crossed z
+      go recovery.Recovered q = absurd (a (e ∙ ap recovery_number q))
+      go (recovery.Loose y) q = absurd (b (e ∙ ap recovery_number q ∙ sym f))
+      go (recovery.Crossed y) q = q ∙ ap recovery.Crossed (sym (g ∙ ap recovery_count q))
+      go (recovery.Refused x) q = absurd (decided.not_refused x q)

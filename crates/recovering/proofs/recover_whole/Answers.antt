@@ -1,7 +1,7 @@
 -- `recover_whole` meets its contract. Assumes nothing.
 use mathlib.Core.Path.{refl, sym}
 use native.Mathlib.Omega.{arith}
-use Rattle.blocks.specs.RecoverLaws.{loose_within, crossed_within, loose_long, crossed_long, on_recovered, on_loose, on_crossed, not_refused}
+use Rattle.blocks.specs.RecoverLaws.{loose_within, crossed_within, loose_long, crossed_long, on_recovered, on_loose_shown, on_crossed_shown, not_refused}
 use Rattle.lines.proofs.LinesLaws.{wrote_at, wrote_front}
 use Rattle.recovering.proofs.recover_whole.Goals as goal
 
@@ -21,7 +21,7 @@ pub returns-in-Loose : goal.returns-in-Loose
 returns-in-Loose c =
     let p = c.requires in
     let e = wrote_at c.loose_line.ensures in
-    (on_loose _ _ _ _ p.0 p.2 c.in-Loose.ensures _ refl c.recover.auto.witness e.text_stands, wrote_front e)
+    (on_loose_shown _ _ _ _ p.0 p.2 c.in-Loose.ensures _ refl c.recover.auto.witness e.text_stands, wrote_front e)
 
 pub slice_bounds-crossed_line-end : goal.slice_bounds-crossed_line-end
 slice_bounds-crossed_line-end c = let p = c.requires in (crossed_within _ _ _ _ p.0 p.2 c.in-Crossed.ensures _ refl c.recover.auto.witness).0
@@ -39,7 +39,7 @@ pub returns-in-Crossed : goal.returns-in-Crossed
 returns-in-Crossed c =
     let p = c.requires in
     let e = wrote_at c.crossed_line.ensures in
-    (on_crossed _ _ _ _ p.0 p.2 c.in-Crossed.ensures _ refl c.recover.auto.witness e.text_stands, wrote_front e)
+    (on_crossed_shown _ _ _ _ p.0 p.2 c.in-Crossed.ensures _ refl c.recover.auto.witness e.text_stands, wrote_front e)
 
 pub returns-in-Recovered : goal.returns-in-Recovered
 returns-in-Recovered c =
