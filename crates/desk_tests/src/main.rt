@@ -2,6 +2,8 @@
 // The file stdin has the jobs, a line each; the file stdout has the sheets that document 01 asks for.
 #![tactic(auto)]
 
+ghost use Rattle.std.specs.Prelude.{◌<◌, ◌≤◌, IfOk, IfSome, length};
+
 use sheet::run;
 use std::alloc::{AllocError, Global};
 use std::io;
@@ -59,7 +61,9 @@ fn show(rt: &(impl Print + AllocGlobal), name: &[u8], job: &[u8]) -> io::Result<
 }
 
 // The value of a hex digit, which is a capital where it is a letter.
-fn digit(b: u8) -> Option<u8> {
+fn digit(b: u8) -> Option<u8>
+    ensures { IfSome result (λ v. v < 16) }
+{
     match b {
         b'0'..=b'9' => Some(b - b'0'),
         b'A'..=b'F' => Some(b - b'A' + 10),
@@ -113,13 +117,29 @@ fn case(rt: &(impl Print + AllocGlobal), line: &[u8]) -> io::Result<()> {
     }
 }
 
+// Reads until the text is full or the input ends, each time as much as there is room for; how many bytes were read. Not `read_to_end`, which
+// asks for a few at a time: a pipe that hands over whole packets drops what a read leaves of one.
+fn read_full(rt: &HostRuntime, text: &mut [u8]) -> io::Result<usize>
+    ensures { IfOk result (λ read. read ≤ length text.new) }
+{
+    let mut read = 0;
+    while read < text.len() {
+        let count = rt.stdin().read(&mut text[read..])?;
+        if count == 0 {
+            break;
+        }
+        read += count;
+    }
+    Ok(read)
+}
+
 fn main(rt: HostRuntime) -> io::Result<()> {
-    let mut text = Vec::new(rt.alloc());
-    rt.stdin().take(INPUT as u64).read_to_end(&mut text)?;
-    if text.len() == INPUT {
+    let mut text = [0u8; INPUT];
+    let length = read_full(&rt, &mut text)?;
+    if length == INPUT {
         return malformed(&rt, b"the input is too long");
     }
-    for line in text.split(|b| *b == b'\n') {
+    for line in text[..length].split(|b| *b == b'\n') {
         case(&rt, line)?;
     }
     Ok(())
