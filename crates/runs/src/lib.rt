@@ -48,6 +48,16 @@ fn full(n: usize, t: usize, runs: &[u16]) -> usize
     n
 }
 
+// A loop: `copy_from_slice` would have a C caller's archive ask for `memmove`.
+fn copy_bytes(into: &mut [u8], from: &[u8])
+    requires { length from.now ≡ length into.old }
+    ensures { into.new ≡ from.now }
+{
+    for i in 0..into.len() {
+        into[i] = from[i];
+    }
+}
+
 // The message of a block. Full sections follow on each other in both, so they are copied at once.
 pub fn gather(n: usize, t: usize, runs: &[u16], block: &[u8], message: &mut [u8])
     requires { Lent n t runs.now block.now message.old }
@@ -55,13 +65,13 @@ pub fn gather(n: usize, t: usize, runs: &[u16], block: &[u8], message: &mut [u8]
 {
     let whole = full(n, t, runs);
     let mut done = whole * t;
-    message[..done].copy_from_slice(&block[..done]);
+    copy_bytes(&mut message[..done], &block[..done]);
     for j in whole..n {
         let run = usize::from(runs[j]);
         let from = j * t;
         let end = from + run;
         let next = done + run;
-        message[done..next].copy_from_slice(&block[from..end]);
+        copy_bytes(&mut message[done..next], &block[from..end]);
         done = next;
     }
 }
@@ -73,14 +83,14 @@ pub fn spread(n: usize, t: usize, runs: &[u16], message: &[u8], block: &mut [u8]
 {
     let whole = full(n, t, runs);
     let mut done = whole * t;
-    block[..done].copy_from_slice(&message[..done]);
+    copy_bytes(&mut block[..done], &message[..done]);
     for j in whole..n {
         let run = usize::from(runs[j]);
         let from = j * t;
         let end = from + run;
         let next = done + run;
         let stop = from + t;
-        block[from..end].copy_from_slice(&message[done..next]);
+        copy_bytes(&mut block[from..end], &message[done..next]);
         block[end..stop].fill(0);
         done = next;
     }

@@ -1,8 +1,8 @@
 -- The rows to start from, found by the marks. A row with exactly one erasure left is a row of one marked place only, so looking at the two rows of each marked
 -- place finds every such row, and finds it once. Top rows stand before bottom rows, so that a turn of peeling does not wait for the turn just before it.
 -- Main results: starting_skips, starting_more (a marked place more is looked at), starting_end (all are).
-use Rattle.std.specs.Prelude.{◌≡◌, refl, ◌⊎◌, List, ◌++◌, ℕ, ◌+◌, ◌-◌, ◌*◌, ◌≤◌, ◌<◌, length, get_or, take, Option, IfSome}
-use Rattle.std.proofs.Common.{sym, ◌∙◌, ap, inl, inr, arith, get_or-take, get_or-append-add, length-take-le}
+use Rattle.std.specs.Prelude.{◌≡◌, refl, ◌⊎◌, List, ◌++◌, ℕ, ◌+◌, ◌-◌, ◌*◌, ◌≤◌, ◌<◌, length, get_or, set, take, Option, IfSome}
+use Rattle.std.proofs.Common.{sym, ◌∙◌, ap, inl, inr, arith, get_or-take, get_or-append-add, get_or-set_same, get_or-set_other, length-take-le}
 use Rattle.std.proofs.Math.Path.{subst}
 use Rattle.std.proofs.Math.Logic.{⊎_elim, by_cases}
 use Rattle.std.proofs.Math.Decide.{ℕ_discrete, dec_lt}
@@ -158,6 +158,18 @@ module _ {n t : ℕ} {shifts marks tally queue list : List ℕ} {c tail count : 
 pub record Appended (queue list : List ℕ) (tail count : ℕ) (queue' : List ℕ) : Type 0 where
   pub early : (i : ℕ) → i < tail → get_or queue' i 0 ≡ get_or queue i 0
   pub late : (i : ℕ) → i < count → get_or queue' (tail + i) 0 ≡ get_or list i 0
+
+pub appended_none : (queue list : List ℕ) (tail : ℕ) → Appended queue list tail 0 queue
+appended_none queue list tail = record { early = λ i h. refl; late = λ i h. absurd (omega arith) }
+
+pub appended_more : {queue list queue' queue'' : List ℕ} {tail count row : ℕ} → Appended queue list tail count queue' → tail + count < length queue'
+    → row ≡ get_or list count 0 → queue'' ≡ set queue' (tail + count) row → Appended queue list tail (count + 1) queue''
+appended_more {list = list} {queue' = queue'} {tail = tail} {count = count} {row = row} A h e f = rw f (record {
+  early = λ i k. get_or-set_other queue' (tail + count) i row 0 (λ z. omega arith) ∙ A.early i k;
+  late = λ i k. by_cases (ℕ_discrete i count)
+      (λ z. rw z (get_or-set_same queue' (tail + count) row 0 h ∙ e))
+      (λ z. get_or-set_other queue' (tail + count) (tail + i) row 0 (λ y. omega arith) ∙ A.late i (omega arith));
+})
 
 append_some : (queue list : List ℕ) (tail count : ℕ) → tail ≤ length queue → Appended queue list tail count (take tail queue ++ list)
 append_some queue list tail count h =

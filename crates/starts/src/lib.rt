@@ -130,7 +130,10 @@ fn append(queue: &mut [u16], tail: usize, list: &[u16], count: usize)
     requires { (tail + count ≤ length queue.old) × (count ≤ length list.now) }
     ensures { Appended queue.old list.now tail count queue.new }
 {
-    queue[tail..tail + count].copy_from_slice(&list[..count]);
+    // A loop: `copy_from_slice` would have a C caller's archive ask for `memmove`.
+    for k in 0..count {
+        queue[tail + k] = list[k];
+    }
 }
 
 // The rows by the marks; gives the tail of the queue, or None where many marks lie together, or in many words.

@@ -1,22 +1,33 @@
 -- Copying runs: one turn of each loop, and what stands there at the end.
--- Main results: fronts_full and filled_full (full sections at once); Gathering (gather's invariant) with its start, step and end; Filling (spread's) with the same.
+-- Main results: copied_more, copied_done (a copy, byte by byte); fronts_full and filled_full (full sections at once); Gathering (gather's invariant) with its start, step and end; Filling (spread's) with the same.
 use Rattle.std.specs.Prelude.{◌≡◌}
 use Rattle.std.proofs.Math.Path.{refl, sym, ap, ap₂}
-use Rattle.std.proofs.Common.{◌∙◌, suc-mul, zero-mul, mul-le-mul_right, div-lt_iff_lt-mul, add-one, drop_of_length-le, take_at, take-add, take_all, length-take-le}
+use Rattle.std.proofs.Common.{◌∙◌, drop-cons, take-suc, suc-mul, zero-mul, mul-le-mul_right, div-lt_iff_lt-mul, add-one, drop_of_length-le, take_at, take-add, take_all, length-take-le}
 use Rattle.std.proofs.Math.Logic.{by_cases}
 use mathlib.Core.List.{List, ◌++◌, map, append_assoc, append-nil}
 use Prim.Native.Nat.{ℕ, zero, suc, ◌+◌, ◌-◌, ◌*◌, ◌/◌, ◌%◌, ◌≤◌, ◌<◌}
 use Rattle.std.proofs.Math.Decide.{ℕ_discrete}
 use native.Mathlib.Omega.{arith}
-use Rattle.std.proofs.Math.ListN.{length, get_or, take, drop, replicate, length-append, length-drop, get_or-append}
-use Rattle.std.proofs.lemmas.List.{length-replicate, drop-append-le}
-use Rattle.std.proofs.Math.Seq.{drop_at, take-append-le, get_or-append-add}
+use Rattle.std.proofs.Math.ListN.{length, get_or, set, take, drop, replicate, length-append, length-drop, get_or-append}
+use Rattle.std.proofs.lemmas.List.{set_at, length-replicate, drop-append-le}
+use Rattle.std.proofs.Math.Seq.{append_snoc, drop_at, take-append-le, get_or-append-add}
 use Rattle.math.specs.Padded.{zeros_at}
 use Rattle.bounds.specs.Bounds.{max_places}
 use Rattle.plan.specs.Layout.{Layout, message_count}
 use Rattle.code.specs.Laws.ParityCount.{messages}
 use Rattle.runs.specs.Runs.{RunsOf, Lent, Full, Spread}
 use Rattle.runs.specs.Laws.Fronts.{total, fronts, filled, part_write, total_more, total_le, total_within, parts_place, runs_short, runs_positive, parity_offset, parity_section, total_count, fronts_messages}
+
+-- one byte of a copy, and all of them
+pub copied_more : (s d : List ℕ) {l : List ℕ} (i v : ℕ) → l ≡ take i s ++ drop i d → v ≡ get_or s i 0 → i < length s → i < length d
+    → set l i v ≡ take (i + 1) s ++ drop (i + 1) d
+copied_more s d i v e g h k =
+    let len : length (take i s) ≡ i = length-take-le i s (omega arith) in
+    rw (e, g, drop-cons d i 0 k, set_at (take i s) (get_or d i 0) (drop (suc i) d) (get_or s i 0) i len, add-one i, take-suc s i 0 h)
+    (sym (append_snoc (take i s) (get_or s i 0) (drop (suc i) d)))
+
+pub copied_done : (s d : List ℕ) {l : List ℕ} (i : ℕ) → l ≡ take i s ++ drop i d → length s ≤ i → length d ≤ i → l ≡ s
+copied_done s d i e h k = e ∙ ap₂ ◌++◌ (take_all i s h) (drop_of_length-le d k) ∙ append-nil s
 
 -- a part that starts at a and ends at a + k
 length_part : (l : List ℕ) (a k : ℕ) → a + k ≤ length l → length (take k (drop a l)) ≡ k
