@@ -1,7 +1,7 @@
 -- The laws of a plan's shifts: the array one shift longer, its length and its first entries; the test of each shift.
-use Rattle.std.specs.Prelude.{◌≡◌, refl, true, ◌&&◌, ltb, take, drop, set, replicate, reverse, fold, Bool}
+use Rattle.std.specs.Prelude.{◌≡◌, refl, true, false, ◌&&◌, ltb, take, drop, set, replicate, reverse, fold, Bool}
 use Rattle.std.proofs.Math.Path.{sym, ap, ap₂}
-use Rattle.std.proofs.Common.{◌∙◌, subst, pow-suc, add-one, length-append, take_at, ltb-true, lt-ltb}
+use Rattle.std.proofs.Common.{◌∙◌, subst, pow-suc, add-one, length-append, drop_of_length-le, drop-cons, take_at, ltb-true, lt-ltb, le-ltb}
 use mathlib.Core.List.{List, [], ◌∷◌, ◌++◌, map, map-append}
 use Prim.Native.Nat.{ℕ, zero, suc, ◌+◌, ◌-◌, ◌*◌, ◌%◌, ◌^◌, ◌<◌, ◌≤◌}
 use native.Mathlib.Omega.{arith}
@@ -79,6 +79,22 @@ pub list_all_below : (t : ℕ) (s : List ℕ) → list_all (λ p. ltb p t) s ≡
 unfolding all_below
 list_all_below t [] = refl
 list_all_below t (p ∷ ps) = ap (λ (b : Bool). ltb p t && b) (list_all_below t ps)
+
+-- the test from i on, and the three ways of a turn: a shift that is not below, one that is, none left
+all_below_at : (t : ℕ) (s : List ℕ) (i : ℕ) → i < length s → all_below t (drop i s) ≡ (ltb (get_or s i 0) t && all_below t (drop (i + 1) s))
+unfolding all_below
+all_below_at t s i h = rw (add-one, drop-cons s i 0 h)
+
+module _ (t : ℕ) (s : List ℕ) (i : ℕ) (e : all_below t s ≡ all_below t (drop i s)) where
+  pub test_stops : {v : ℕ} → v ≡ get_or s i 0 → i < length s → t ≤ v → false ≡ all_below t s
+  test_stops g h stop = sym (e ∙ all_below_at t s i h ∙ simp (le-ltb (get_or s i 0) t (omega arith)))
+
+  pub test_goes_on : {v : ℕ} → v ≡ get_or s i 0 → i < length s → v < t → all_below t s ≡ all_below t (drop (i + 1) s)
+  test_goes_on g h on = e ∙ all_below_at t s i h ∙ simp (lt-ltb (get_or s i 0) t (omega arith))
+
+  pub test_ends : length s ≤ i → true ≡ all_below t s
+  unfolding all_below
+  test_ends h = sym (e ∙ ap (λ (l : List ℕ). all_below t l) (drop_of_length-le s h))
 
 -- what the test says of each shift
 pub all_below_below : (t : ℕ) (s : List ℕ) → all_below t s ≡ true → (j : ℕ) → j < length s → get_or s j 0 < t

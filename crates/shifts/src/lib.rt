@@ -8,11 +8,16 @@ ghost use Rattle.math.specs.Gcd.{gcd as gcdOf, gcd_all};
 ghost use Rattle.bounds.specs.Bounds.{max_n, max_t, all_below};
 ghost use Rattle.shifts.specs.Shifts.{padded, gaps};
 
-// Refusal 2 is this test's false.
+// Refusal 2 is this test's false. A loop by index: of this form eight shifts are tested at a time, of `all` each alone.
 pub fn all_below(s: &[u16], t: usize) -> bool
     ensures { result ≡ all_below t s.now }
 {
-    s.iter().all(|p| usize::from(*p) < t)
+    for i in 0..s.len() {
+        if t <= usize::from(s[i]) {
+            return false;
+        }
+    }
+    true
 }
 
 pub fn copied(s: &[u16]) -> [u16; 32]

@@ -1,11 +1,16 @@
--- `all_below` meets its contract: the chain tests every shift. Assumes nothing.
-use Rattle.std.proofs.Common.{◌∙◌, ltb, rules, tests}
-use Rattle.std.proofs.lemmas.Iterator.{YieldsList-from_slice}
-use Rattle.std.proofs.lemmas.Iterator.Search.{all_from_yields_List}
-use Rattle.shifts.specs.ShiftsLaws.{list_all_below}
+use mathlib.Core.Path.{refl}
+use native.Mathlib.Omega.{arith}
+use Rattle.shifts.specs.ShiftsLaws.{test_stops, test_goes_on, test_ends}
 use Rattle.shifts.proofs.all_below.Goals as goal
 
+pub loop-i-init : goal.loop-i-init
+loop-i-init c = refl
+
+pub returns-then-t-from : goal.returns-then-t-from
+returns-then-t-from c = test_stops _ _ _ c.loop-i.invariant refl (omega arith) (omega arith)
+
+pub loop-i-preserved : goal.loop-i-preserved
+loop-i-preserved c = test_goes_on _ _ _ c.loop-i.invariant refl (omega arith) (omega arith)
+
 pub returns : goal.returns
-returns c =
-    all_from_yields_List (λ p. ltb p c.args.t) _ _ _ c.all.ensures.ran (YieldsList-from_slice c.args.s.now cc) (λ x b q k. search (rules, tests))
-    ∙ list_all_below c.args.t c.args.s.now
+returns c = test_ends _ _ c.loop-i.i c.loop-i.invariant (omega arith)
