@@ -39,7 +39,7 @@ fn write(rt: &HostRuntime, stream: Stream, sheet: &[u8]) -> Stream {
     written(stream, done)
 }
 
-// What is asked for; none where nothing more is. Not inlined: where peeling's loops come to lie, and so the time of 06 and 07, goes by the code before them (docs/SPEED.md).
+// What is asked for; none where nothing more is. Not inlined: its size moves peeling's loops, and with them the time of 06 and 07 (docs/SPEED.md).
 #[inline(never)]
 fn answer(rt: &HostRuntime, worked: Worked, sheet: &[u8], input: &mut [u8]) -> Option<Stream> {
     let here = worked.stream;
